@@ -1,0 +1,1 @@
+// Definitions only: little-endian numbers in a list of bytes. See specs/.

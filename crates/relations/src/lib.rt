@@ -1,0 +1,1 @@
+// Definitions only: relations between commits, their composition and closure, walks and rings. See specs/.

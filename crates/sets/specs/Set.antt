@@ -1,0 +1,31 @@
+-- A word of 64 bits as a set of numbers below 64: "bit i of a mask stands for version i" (01, The trace file), and
+-- "readers u64 with bit c for commit c" (01, The image). Assumes nothing.
+use Prim.Native.Nat.{ℕ, _-_, _/_, _%_, _^_}
+use mathlib.Core.Bool.{Bool}
+use lib.Dec.{eqb}
+use lib.Bits.{bitOr}
+use lib.Count.{leadingZeros}
+
+-- a set, as the number that its bits make
+abbrev pub Set : Type 0
+Set = ℕ
+
+-- the width of a word
+abbrev pub width : ℕ
+width = 64
+
+-- the set holds i
+abbrev pub has : Set → ℕ → Bool
+has m i = eqb (m / 2 ^ i % 2) 1
+
+-- the set with i in it
+abbrev pub insert : ℕ → Set → Set
+insert i m = bitOr m (2 ^ i)
+
+-- all numbers below n
+abbrev pub below : ℕ → Set
+below n = 2 ^ n - 1
+
+-- "the highest set bit of its mask" (01, Store and views)
+unfoldable pub highest : Set → ℕ
+highest m = 63 - leadingZeros 64 m
