@@ -74,8 +74,8 @@ insert-has t m i h = go (digit m i) refl
     d : max (digit m i) (digit (2 ^ t) i) ≡ 1
     d = sym (digit-or m (2 ^ t) i) ∙ eqb→eq _ 1 h
     go : (x : ℕ) → digit m i ≡ x → T (has m i) ⊎ (i ≡ t)
-    go zero e = inr (only t i (eq-test _ 1 (omega (arith, d))))
-    go (suc x) e = inl (eq-test _ 1 (omega (arith, digit-small m i)))
+    go zero e = inr (only t i (eq-test (digit (2 ^ t) i) 1 (omega (arith, d))))
+    go (suc x) e = inl (eq-test (digit m i) 1 (omega (arith, digit-small m i)))
 
 pub has-insert : (t m i : ℕ) → T (has m i) → T (has (insert t m) i)
 has-insert t m i h = eq-test _ 1 (digit-or m (2 ^ t) i ∙ (let e : digit m i ≡ 1 = eqb→eq _ 1 h in omega (arith, digit-small (2 ^ t) i)))
