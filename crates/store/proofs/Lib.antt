@@ -1,1 +1,2 @@
 pub mod Updated
+pub mod Sound
