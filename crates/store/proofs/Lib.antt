@@ -1,2 +1,4 @@
 pub mod Updated
 pub mod Sound
+pub mod Missing
+pub mod Legal
