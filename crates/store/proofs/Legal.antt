@@ -105,3 +105,104 @@ legal-shift n g d u h f =
   where
     lost-is : (lost (g .store) (g .views d) u ≡ none) ↔ ((k i : ℕ) → k < g .store .keys → i < count (g .store) k → T (has (g .views d k) i) → T (has (u k) i))
     lost-is = missing-none (g .store) (allOf (g .views d)) u
+
+-- ---- a commit
+
+differs-some : (x : Value) (v : Version) → (¬ T (differs (some x) v)) ↔ (x ≡ v .value)
+unfolding differs
+differs-some x v =
+    ( λ n. eq-is x (v .value) .0 (stable (eqb x (v .value)) (λ m. n (not-T (eqb x (v .value)) m)))
+    , λ e t. T-not (eqb x (v .value)) t (eq-is x (v .value) .1 e) )
+
+differs-none : (v : Version) → ¬ T (differs none v)
+unfolding differs
+differs-none v t = t
+
+module _ (g : Configuration) (c : Commit) (h : Sound g) (f : FitsCommit (g .store .keys) c) where
+  abbrev s : Store
+  s = g .store
+
+  abbrev u : View
+  u = viewBefore g c
+
+  abbrev Newer : Type 0
+  Newer = (t : CommitNumber) → Appears s t → 0 < t → s .clientOf t ≡ c .client → s .sessionOf t < c .session
+
+  newer-is : (¬ T (oldNumber s c)) ↔ Newer
+  unfolding oldNumber
+  newer-is =
+      ( λ n t a p e. go t a p e n (decLt (s .sessionOf t) (c .session))
+      , λ w x. let y = old .0 x in let l : s .sessionOf (y .0) < c .session = w (y .0) (y .2 .0 .0) (y .2 .0 .1) (y .2 .1 .0) in let q : c .session ≤ s .sessionOf (y .0) = y .2 .1 .1 in omega arith )
+    where
+      old : T (any (nextNumber s) (notAbove s c)) ↔ ((t : CommitNumber) × (t < nextNumber s) × ((Appears s t × (0 < t)) × ((s .clientOf t ≡ c .client) × (c .session ≤ s .sessionOf t))))
+      old = any-is (nextNumber s) (notAbove s c) (λ t.
+          and-is (stored s t && ltb 0 t) (eqb (s .clientOf t) (c .client) && leb (c .session) (s .sessionOf t))
+            (and-is (stored s t) (ltb 0 t) (stored-is s (h .store) t) (lt-is 0 t))
+            (and-is (eqb (s .clientOf t) (c .client)) (leb (c .session) (s .sessionOf t)) (eq-is _ _) (le-is _ _)))
+      go : (t : CommitNumber) → Appears s t → 0 < t → s .clientOf t ≡ c .client → ¬ T (any (nextNumber s) (notAbove s c)) → Dec (s .sessionOf t < c .session) → s .sessionOf t < c .session
+      go t a p e n (yes l) = l
+      go t a p e n (no m) = absurd (n (old .1 (t, appears-lt s (h .store) t a, ((a, p), (e, omega arith)))))
+
+  abbrev Values : Type 0
+  Values = (k x : ℕ) → valueOf read (c .operations) k ≡ some x → x ≡ version s k (newest u k) .value
+
+  values-is : (wrongRead s u c ≡ none) ↔ Values
+  unfolding wrongRead
+  values-is = both (map-none _ _) (both (least-none (s .keys) (wrongAt s u c)) (right, all))
+    where
+      right : ((k : ℕ) → k < s .keys → ¬ T (wrongAt s u c k)) → Values
+      right n k x e = differs-some x (version s k (newest u k)) .0
+          (subst (λ (o : Option Value). ¬ T (differs o (version s k (newest u k)))) e (n k (f .read-keys k (isSome-some _ x e))))
+      all : Values → (k : ℕ) → k < s .keys → ¬ T (wrongAt s u c k)
+      all w k l = go (valueOf read (c .operations) k) refl
+        where
+          go : (o : Option Value) → valueOf read (c .operations) k ≡ o → ¬ T (differs o (version s k (newest u k)))
+          go none e = differs-none (version s k (newest u k))
+          go (some x) e = differs-some x (version s k (newest u k)) .1 (w k x e)
+
+  abbrev Still : Type 0
+  Still = (k : Key) → ¬ T (reads c k) → ¬ T (writes c k) → c .viewAfter k ≡ u k
+
+  still-is : (stray s u c ≡ none) ↔ Still
+  unfolding stray
+  still-is = both (least-none (s .keys) (strayAt u c)) (kept, all)
+    where
+      test : (k : Key) → T (strayAt u c k) ↔ ((¬ (T (reads c k) ⊎ T (writes c k))) × (¬ (c .viewAfter k ≡ u k)))
+      test k = and-is (not (touches c k)) (not (eqb (c .viewAfter k) (u k))) (not-is (touches c k) (or-is (reads c k) (writes c k) same same)) (not-is (eqb (c .viewAfter k) (u k)) (eq-is _ _))
+      neither : (k : Key) → ¬ T (reads c k) → ¬ T (writes c k) → T (reads c k) ⊎ T (writes c k) → ⊥
+      neither k nr nw (inl x) = nr x
+      neither k nr nw (inr x) = nw x
+      kept : ((k : ℕ) → k < s .keys → ¬ T (strayAt u c k)) → Still
+      kept n k nr nw = go (decLt k (s .keys)) (ℕ-discrete (c .viewAfter k) (u k))
+        where
+          go : Dec (k < s .keys) → Dec (c .viewAfter k ≡ u k) → c .viewAfter k ≡ u k
+          go x (yes e) = e
+          go (yes l) (no m) = absurd (n k l (test k .1 (neither k nr nw, m)))
+          go (no l) (no m) = f .after .beyond k (omega arith) ∙ sym (h .views (c .client) .beyond k (omega arith))
+      all : Still → (k : ℕ) → k < s .keys → ¬ T (strayAt u c k)
+      all w k l t = let x = test k .0 t in x .1 (w k (λ r. x .0 (inl r)) (λ r. x .0 (inr r)))
+
+  sound-after : SoundStore (storeAfter g c)
+  sound-after = sound-update s u c (h .store) (f .read-keys) (f .write-keys)
+
+  fits-after : FitsView (storeAfter g c .keys) (c .viewAfter)
+  unfolding update
+  fits-after = f .after
+
+  pub legal-commit : (n : ℕ) → (refusesEvent n g (commit c) ≡ none) ↔ LegalCommit g c
+  unfolding refusesEvent
+  legal-commit n =
+      both (firstSome-none _)
+      ( λ (a, (b, (d, (e, (i, _))))). record {
+          newer = newer-is .0 (when-none _ _ .0 a);
+          values = values-is .0 (map-none _ _ .0 b);
+          view = view-is (storeAfter g c) sound-after (c .viewAfter) fits-after .0 (map-none _ _ .0 d, map-none _ _ .0 e);
+          still = still-is .0 (map-none _ _ .0 i)
+        }
+      , λ l.
+          let v = view-is (storeAfter g c) sound-after (c .viewAfter) fits-after .1 (l .view) in
+          ( when-none _ _ .1 (newer-is .1 (l .newer))
+          , (map-none _ _ .1 (values-is .1 (l .values))
+          , (map-none _ _ .1 (v .0)
+          , (map-none _ _ .1 (v .1)
+          , (map-none _ _ .1 (still-is .1 (l .still)), tt))))) )
