@@ -1,0 +1,4 @@
+pub mod Implications
+pub mod Growth
+pub mod Acyclic
+pub mod Rings
