@@ -5,34 +5,51 @@
 use Prim.Native.Nat.{ℕ, _<_, _≤_}
 use native.Mathlib.Omega.{arith}
 use native.Mathlib.Decide.{ℕ-discrete}
-use mathlib.Core.Path.{_≡_, refl, sym, _∙_, subst}
+use mathlib.Core.Path.{_≡_, sym, ap, _∙_, subst}
 use mathlib.Core.Logic.{_⊎_, inl, inr, _≢_}
-use Rattle.relations.specs.Relation.{ThenMaybe, alone, followed, Plus, one, more}
+use Rattle.relations.specs.Relation.{alone, followed, Plus}
 use Rattle.relations.proofs.Walks.{Star, stay, then, Acyclic, star-link, plus-map, closed-ends, cut-ring}
-use Rattle.dependencies.specs.History.{History, Stored, as-writer, as-reader, SO, session-order, WR, write-read, WW, write-write, RW, read-write, PlainLink, by-SO, by-WR, by-WW, Dependency, SnapshotStep, View, Holds, AllOf, UpdateAtomic, SnapshotIsolation, Serialisable}
+use Rattle.dependencies.specs.History.{History, Stored, as-writer, as-reader, SO, session-order, write-read, write-write, RW, read-write}
+use Rattle.dependencies.specs.History.{PlainLink, by-SO, by-WR, by-WW, Dependency, SnapshotStep}
+use Rattle.dependencies.specs.History.{View, Holds, UpdateAtomic, SnapshotIsolation, Serialisable}
 use Rattle.dependencies.proofs.Growth.{OwnWrite, OwnRead, SameClient, Grown, Owns}
+
+unless-right : {A B : Type 0} → A ⊎ B → ¬ B → A
+unless-right (inl x) n = x
+unless-right (inr y) n = absurd (n y)
+
+unless-left : {A B : Type 0} → A ⊎ B → ¬ A → B
+unless-left (inl x) n = absurd (n x)
+unless-left (inr y) n = y
 
 module _ (H H′ : History) (U : View) (t : ℕ) (writes : ℕ → Type 0) (g : Grown H H′ U t writes) where
   -- ---- what t changes
 
-  stored-before : {a : ℕ} → Stored H a → a < t
-  stored-before (as-writer w) = g .writers-before _ _ _ w
-  stored-before (as-reader r) = g .readers-before _ _ _ r
+  t-not-stored : ¬ Stored H t
+  t-not-stored s = let h : t < t = g .stored-before t s in omega arith
 
-  -- another commit than t wrote and read before t what it did after, and so are the links between two such
-  wrote-old : {a k i : ℕ} → H′ .wrote a k i → a ≢ t → H .wrote a k i
-  wrote-old {a} {k} {i} w n = go (g .written-after a k i w)
+  -- what t wrote is later than every version before it
+  own-write : {k i : ℕ} → H′ .wrote t k i → OwnWrite H writes t t k i
+  own-write w = unless-left (g .written-after _ _ _ w) (λ x. t-not-stored (as-writer x))
+
+  -- what t read is the newest version that its view holds
+  own-read : {k i : ℕ} → H′ .read t k i → OwnRead U t t k i
+  own-read r = unless-left (g .read-after _ _ _ r) (λ x. t-not-stored (as-reader x))
+
+  -- every version that is read after t was written before it
+  read-written : {a k i : ℕ} → H′ .read a k i → (b : ℕ) × H .wrote b k i
+  read-written {a} {k} {i} r = go (g .read-after a k i r)
     where
-      go : H .wrote a k i ⊎ OwnWrite H writes t a k i → H .wrote a k i
-      go (inl x) = x
-      go (inr x) = absurd (n (x .0))
+      go : H .read a k i ⊎ OwnRead U t a k i → (b : ℕ) × H .wrote b k i
+      go (inl x) = g .reads-written _ _ _ x
+      go (inr x) = g .view-written _ _ (x .1)
+
+  -- another commit than t wrote and read before t what it did after; so links between two such were there before t
+  wrote-old : {a k i : ℕ} → H′ .wrote a k i → a ≢ t → H .wrote a k i
+  wrote-old w n = unless-right (g .written-after _ _ _ w) (λ x. n (x .0))
 
   read-old : {a k i : ℕ} → H′ .read a k i → a ≢ t → H .read a k i
-  read-old {a} {k} {i} r n = go (g .read-after a k i r)
-    where
-      go : H .read a k i ⊎ OwnRead U t a k i → H .read a k i
-      go (inl x) = x
-      go (inr x) = absurd (n (x .0))
+  read-old r n = unless-right (g .read-after _ _ _ r) (λ x. n (x .0))
 
   stored-old : {a : ℕ} → Stored H′ a → a ≢ t → Stored H a
   stored-old (as-writer w) n = as-writer (wrote-old w n)
@@ -42,8 +59,8 @@ module _ (H H′ : History) (U : View) (t : ℕ) (writes : ℕ → Type 0) (g : 
   SO-old {a} {b} (session-order sa sb pa pb same less) na nb =
       let sa′ : Stored H a = stored-old sa na in
       let sb′ : Stored H b = stored-old sb nb in
-      let la : a < t = stored-before sa′ in
-      let lb : b < t = stored-before sb′ in
+      let la : a < t = g .stored-before _ sa′ in
+      let lb : b < t = g .stored-before _ sb′ in
       session-order sa′ sb′ pa pb (sym (g .client-kept a la) ∙ same ∙ g .client-kept b lb) (rw (← g .session-kept a la, ← g .session-kept b lb) less)
 
   plain-old : {a b : ℕ} → PlainLink H′ a b → a ≢ t → b ≢ t → PlainLink H a b
@@ -54,56 +71,23 @@ module _ (H H′ : History) (U : View) (t : ℕ) (writes : ℕ → Type 0) (g : 
   RW-old : {a b : ℕ} → RW H′ a b → a ≢ t → b ≢ t → RW H a b
   RW-old (read-write r w l n) na nb = read-write (read-old r na) (wrote-old w nb) l n
 
-  -- what t wrote is later than every version before it
-  own-write : {k i : ℕ} → H′ .wrote t k i → OwnWrite H writes t t k i
-  own-write {k} {i} w = go (g .written-after t k i w)
-    where
-      go : H .wrote t k i ⊎ OwnWrite H writes t t k i → OwnWrite H writes t t k i
-      go (inl x) = let h : t < t = g .writers-before _ _ _ x in absurd (omega arith)
-      go (inr x) = x
-
-  -- what t read is the newest version that its view holds
-  own-read : {k i : ℕ} → H′ .read t k i → OwnRead U t t k i
-  own-read {k} {i} r = go (g .read-after t k i r)
-    where
-      go : H .read t k i ⊎ OwnRead U t t k i → OwnRead U t t k i
-      go (inl x) = let h : t < t = g .readers-before _ _ _ x in absurd (omega arith)
-      go (inr x) = x
-
-  -- every version that is read after t was written before it
-  read-written : {a k i : ℕ} → H′ .read a k i → (b : ℕ) × H .wrote b k i
-  read-written {a} {k} {i} r = go (g .read-after a k i r)
-    where
-      go : H .read a k i ⊎ OwnRead U t a k i → (b : ℕ) × H .wrote b k i
-      go (inl x) = g .reads-written _ _ _ x
-      go (inr x) = g .view-written _ _ (x .1)
-
   -- ---- only RW links leave t
 
-  no-plain-elsewhere : {b : ℕ} → PlainLink H′ t b → b ≢ t → ⊥
-  no-plain-elsewhere {b} (by-SO (session-order st sb pt pb same less)) n =
+  no-plain-from-t : {b : ℕ} → PlainLink H′ t b → Dec (b ≡ t) → ⊥
+  no-plain-from-t (by-WR (write-read {k} {i} w r)) d = let h : i < i = own-write w .2 _ _ (read-written r .1) in omega arith
+  no-plain-from-t (by-SO (session-order st sb pt pb same less)) (yes e) = let f = ap (H′ .sessionOf) e in omega arith
+  no-plain-from-t {b} (by-SO (session-order st sb pt pb same less)) (no n) =
       let sb′ : Stored H b = stored-old sb n in
-      let lb : b < t = stored-before sb′ in
+      let lb : b < t = g .stored-before b sb′ in
       let h : H .sessionOf b < H′ .sessionOf t = g .session-grows b (sb′, pb, sym (g .client-kept b lb) ∙ sym same) in
       let e : H′ .sessionOf b ≡ H .sessionOf b = g .session-kept b lb in
       omega arith
-  no-plain-elsewhere (by-WR (write-read {k} {i} w r)) n = let h : i < i = own-write w .2 _ _ (read-written r .1) in omega arith
-  no-plain-elsewhere (by-WW (write-write {k} {i} {j} w w′ l)) n = let h : j < i = own-write w .2 _ _ (wrote-old w′ n) in omega arith
-
-  no-plain-loop : PlainLink H′ t t → ⊥
-  no-plain-loop (by-SO (session-order st st′ pt pt′ same less)) = omega arith
-  no-plain-loop (by-WR (write-read {k} {i} w r)) = let h : i < i = own-write w .2 _ _ (read-written r .1) in omega arith
-  no-plain-loop (by-WW (write-write {k} {i} {j} w w′ l)) = let h : i ≡ j = g .one-write k i j w w′ in omega arith
+  no-plain-from-t (by-WW (write-write {k} {i} {j} w w′ l)) (yes e) =
+      let h : i ≡ j = g .one-write k i j w (subst (λ (x : ℕ). H′ .wrote x k j) e w′) in omega arith
+  no-plain-from-t (by-WW (write-write {k} {i} {j} w w′ l)) (no n) = let h : j < i = own-write w .2 _ _ (wrote-old w′ n) in omega arith
 
   plain-starts : {a b : ℕ} → PlainLink H′ a b → a ≢ t
-  plain-starts {a} {b} d e = go (ℕ-discrete b t)
-    where
-      from-t : PlainLink H′ t b
-      from-t = subst (λ (x : ℕ). PlainLink H′ x b) e d
-
-      go : Dec (b ≡ t) → ⊥
-      go (yes f) = no-plain-loop (subst (λ (x : ℕ). PlainLink H′ t x) f from-t)
-      go (no n) = no-plain-elsewhere from-t n
+  plain-starts {a} {b} d e = no-plain-from-t (subst (λ (x : ℕ). PlainLink H′ x b) e d) (ℕ-discrete b t)
 
   step-starts : (a b : ℕ) → SnapshotStep H′ a b → a ≢ t
   step-starts a b (alone d) = plain-starts d
@@ -129,7 +113,7 @@ module _ (H H′ : History) (U : View) (t : ℕ) (writes : ℕ → Type 0) (g : 
     plain-into : {a : ℕ} → PlainLink H′ a t → a ≢ t → Seen a
     plain-into {a} (by-SO (session-order sa st pa pt same less)) n =
         let sa′ : Stored H a = stored-old sa n in
-        own (sa′, pa, sym (g .client-kept a (stored-before sa′)) ∙ same)
+        own (sa′, pa, sym (g .client-kept a (g .stored-before a sa′)) ∙ same)
     plain-into (by-WR (write-read {k} {i} w r)) n = held (k, i, own-read r .1, wrote-old w n)
     plain-into {a} (by-WW (write-write {k} {i} {j} w w′ l)) n = held (k, i, ua a k i (own-write w′ .1) (wrote-old w n), wrote-old w n)
 

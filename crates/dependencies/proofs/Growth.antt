@@ -4,6 +4,7 @@ use Prim.Native.Nat.{ℕ, _<_, _≤_}
 use mathlib.Core.Path.{_≡_}
 use mathlib.Core.Logic.{_⊎_}
 use Rattle.dependencies.specs.History.{History, Stored, View, Holds, AllOf}
+use Rattle.dependencies.proofs.Bounds.{StoredBelow}
 use Rattle.dependencies.proofs.Implications.{ReadsWritten}
 
 -- a is t, which wrote the key; version i is later than every version of it before t
@@ -21,8 +22,7 @@ SameClient H H′ t a = Stored H a × (0 < a) × (H .clientOf a ≡ H′ .client
 -- H′ is H after commit t, made on the view U, which writes the keys `writes`
 pub record Grown (H H′ : History) (U : View) (t : ℕ) (writes : ℕ → Type 0) : Type 0 where
   -- t is a new number
-  pub writers-before : (a k i : ℕ) → H .wrote a k i → a < t
-  pub readers-before : (a k i : ℕ) → H .read a k i → a < t
+  pub stored-before : StoredBelow t H
   -- commits before t keep their client and session number
   pub client-kept : (a : ℕ) → a < t → H′ .clientOf a ≡ H .clientOf a
   pub session-kept : (a : ℕ) → a < t → H′ .sessionOf a ≡ H .sessionOf a

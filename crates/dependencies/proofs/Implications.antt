@@ -4,7 +4,8 @@ use Prim.Native.Nat.{ℕ}
 use mathlib.Core.Logic.{_⊎_, inl, inr, _↔_}
 use Rattle.relations.specs.Relation.{ThenMaybe, alone, followed, Plus, one, more}
 use Rattle.relations.proofs.Walks.{plus-map, thenMaybe-map}
-use Rattle.dependencies.specs.History.{History, SO, WR, write-read, WW, RW, PlainLink, by-SO, by-WR, by-WW, PrefixStep, SnapshotStep, View, Closed, MonotonicWrites, WriteFollowsReads, UpdateAtomic, ConsistentPrefix, SnapshotIsolation, Serialisable}
+use Rattle.dependencies.specs.History.{History, SO, WR, write-read, WW, RW, by-SO, by-WR, by-WW, PrefixStep, SnapshotStep}
+use Rattle.dependencies.specs.History.{View, Closed, MonotonicWrites, WriteFollowsReads, UpdateAtomic, ConsistentPrefix, SnapshotIsolation, Serialisable}
 
 -- every version that was read was written by some commit
 abbrev pub ReadsWritten : History → Type 0

@@ -2,7 +2,7 @@
 -- says what a relation means, so does the test made of it. What passes through a number below n needs links that lead below n. Assumes nothing.
 use Prim.Native.Nat.{ℕ, zero, suc, _<_}
 use mathlib.Core.Path.{_≡_}
-use mathlib.Core.Bool.{Bool, true, false, _&&_, _||_}
+use mathlib.Core.Bool.{_&&_, _||_}
 use mathlib.Core.Logic.{_⊎_, inl, inr, _↔_}
 use native.Mathlib.Omega.{arith}
 use native.Mathlib.Decide.{ℕ-discrete}
@@ -19,6 +19,10 @@ Means r R = (a b : ℕ) → T (r a b) ↔ R a b
 -- every link leads to a number below n
 abbrev pub Below : ℕ → (ℕ → ℕ → Type 0) → Type 0
 Below n R = (a b : ℕ) → R a b → b < n
+
+pub thenMaybe-below : {R Q : ℕ → ℕ → Type 0} (n : ℕ) → Below n R → Below n Q → Below n (ThenMaybe R Q)
+thenMaybe-below n f g a b (alone r) = f a b r
+thenMaybe-below n f g a b (followed r q) = g _ b q
 
 pub itself : {A : Type 0} → A ↔ A
 itself = (λ x. x, λ x. x)

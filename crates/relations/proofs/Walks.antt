@@ -13,6 +13,10 @@ pub data Star (R : ℕ → ℕ → Type 0) : ℕ → ℕ → Type 0 where
 abbrev pub Acyclic : (ℕ → ℕ → Type 0) → Type 0
 Acyclic R = (a : ℕ) → ¬ Plus R a a
 
+pub no-links-acyclic : {R : ℕ → ℕ → Type 0} → ((a b : ℕ) → ¬ R a b) → Acyclic R
+no-links-acyclic h a (one r) = h _ _ r
+no-links-acyclic h a (more r p) = h _ _ r
+
 -- Walks join.
 module _ {R : ℕ → ℕ → Type 0} where
   pub plus-append : {a b c : ℕ} → Plus R a b → Plus R b c → Plus R a c
