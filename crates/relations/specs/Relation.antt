@@ -23,7 +23,14 @@ unfoldable pub plus : ℕ → Relation → Relation
 plus zero r a b = r a b
 plus (suc m) r a b = plus m r a b || (plus m r a m && plus m r m b)
 
--- What "one or more links" means for any relation between numbers; proofs/Closure.antt shows that `plus` says it.
+-- What these mean for any relations between numbers; proofs/Closure.antt shows that the tests say it.
+
+-- R ; Q?
+pub data ThenMaybe (R Q : ℕ → ℕ → Type 0) : ℕ → ℕ → Type 0 where
+  alone : {a b : ℕ} → R a b → ThenMaybe R Q a b
+  followed : {a b c : ℕ} → R a b → Q b c → ThenMaybe R Q a c
+
+-- R+: "'+' means one or more links" (01, Clauses and levels)
 pub data Plus (R : ℕ → ℕ → Type 0) : ℕ → ℕ → Type 0 where
   one : {a b : ℕ} → R a b → Plus R a b
   more : {a b c : ℕ} → R a b → Plus R b c → Plus R a c

@@ -92,15 +92,15 @@ stray s u c = least (s .keys) (strayAt u c)
 unfoldable pub refusesEvent : ℕ → Configuration → Event → Option Refusal
 refusesEvent n g (shift d u) =
     firstSome
-      ( mapSome (refuseKey 10 n) (badMask (g .store) u)
-      ∷ mapSome (refusePlace 11 n) (halfHeld (g .store) u)
-      ∷ mapSome (refusePlace 12 n) (lost (g .store) (g .views d) u)
-      ∷ [] )
+    (mapSome (refuseKey 10 n) (badMask (g .store) u)
+    ∷ mapSome (refusePlace 11 n) (halfHeld (g .store) u)
+    ∷ mapSome (refusePlace 12 n) (lost (g .store) (g .views d) u)
+    ∷ [])
 refusesEvent n g (commit c) =
     firstSome
-      ( when (oldNumber (g .store) c) (refuse 9 n)
-      ∷ mapSome (refusePlace 13 n) (wrongRead (g .store) (viewBefore g c) c)
-      ∷ mapSome (refuseKey 10 n) (badMask (storeAfter g c) (c .viewAfter))
-      ∷ mapSome (refusePlace 11 n) (halfHeld (storeAfter g c) (c .viewAfter))
-      ∷ mapSome (refuseKey 14 n) (stray (g .store) (viewBefore g c) c)
-      ∷ [] )
+    (when (oldNumber (g .store) c) (refuse 9 n)
+    ∷ mapSome (refusePlace 13 n) (wrongRead (g .store) (viewBefore g c) c)
+    ∷ mapSome (refuseKey 10 n) (badMask (storeAfter g c) (c .viewAfter))
+    ∷ mapSome (refusePlace 11 n) (halfHeld (storeAfter g c) (c .viewAfter))
+    ∷ mapSome (refuseKey 14 n) (stray (g .store) (viewBefore g c) c)
+    ∷ [])

@@ -60,7 +60,7 @@ openingStore keys = record {
   versions = λ k. choose (ltb k keys) (openingVersion ∷ []) [];
   clientOf = λ t. 0;
   sessionOf = λ t. 0;
-  commits = 0
+  commits = 0;
 }
 
 -- "each client's view is {0} at each key"

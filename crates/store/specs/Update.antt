@@ -60,7 +60,7 @@ update s u c = record {
   versions = λ k. append (valueOf write (c .operations) k) (nextNumber s) (noteRead (valueOf read (c .operations) k) (newest u k) (nextNumber s) (s .versions k));
   clientOf = atNumber (nextNumber s) (c .client) (s .clientOf);
   sessionOf = atNumber (nextNumber s) (c .session) (s .sessionOf);
-  commits = suc (s .commits)
+  commits = suc (s .commits);
 }
 
 -- "At a commit the client's present view is u"

@@ -83,7 +83,7 @@ commitRead s at keys m = record {
   client = leAt s (at + 4) 1;
   session = leAt s (at + 6) 4;
   operations = operationsAt s (at + 10) m;
-  viewAfter = viewAt s (at + (10 + 8 * m)) keys
+  viewAfter = viewAt s (at + (10 + 8 * m)) keys;
 }
 
 -- a commit of m operations

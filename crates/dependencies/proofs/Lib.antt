@@ -1,0 +1,6 @@
+pub mod Bounds
+pub mod Implications
+pub mod Growth
+pub mod Opening
+pub mod Acyclic
+pub mod Rings
