@@ -8,7 +8,8 @@ use native.Mathlib.Omega.{arith}
 use native.Mathlib.Decide.{ℕ-discrete}
 use lib.Dec.{T}
 use Rattle.search.specs.Search.{any}
-use Rattle.search.proofs.Tests.{and-is, or-is, any-is}
+use Rattle.search.proofs.Tests.{same, and-is, or-is}
+use Rattle.search.proofs.Search.{any-is}
 use Rattle.relations.specs.Relation.{Relation, union, compose, thenMaybe, plus, ThenMaybe, alone, followed, Plus, one, more}
 use Rattle.relations.proofs.Walks.{plus-append, plus-map}
 
@@ -23,9 +24,6 @@ Below n R = (a b : ℕ) → R a b → b < n
 pub thenMaybe-below : {R Q : ℕ → ℕ → Type 0} (n : ℕ) → Below n R → Below n Q → Below n (ThenMaybe R Q)
 thenMaybe-below n f g a b (alone r) = f a b r
 thenMaybe-below n f g a b (followed r q) = g _ b q
-
-pub itself : {A : Type 0} → A ↔ A
-itself = (λ x. x, λ x. x)
 
 module _ {R Q : ℕ → ℕ → Type 0} (r q : Relation) (is-r : Means r R) (is-q : Means q Q) where
   pub union-means : Means (union r q) (λ a b. R a b ⊎ Q a b)
@@ -66,7 +64,7 @@ module _ (r : Relation) where
   hop-is m a b = (λ t. into (w .0 t), λ h. w .1 (out h))
     where
       w : T (plus (suc m) r a b) ↔ (T (plus m r a b) ⊎ (T (plus m r a m) × T (plus m r m b)))
-      w = or-is (plus m r a b) (plus m r a m && plus m r m b) itself (and-is (plus m r a m) (plus m r m b) itself itself)
+      w = or-is (plus m r a b) (plus m r a m && plus m r m b) same (and-is (plus m r a m) (plus m r m b) same same)
 
       into : T (plus m r a b) ⊎ (T (plus m r a m) × T (plus m r m b)) → Hop m a b
       into (inl x) = direct x

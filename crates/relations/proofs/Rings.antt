@@ -5,6 +5,7 @@ use mathlib.Core.Path.{_≡_, refl}
 use mathlib.Core.Bool.{Bool, true, false, _&&_, _||_}
 use mathlib.Core.List.{List, [], _∷_, _++_}
 use lib.Dec.{T}
+use Rattle.search.proofs.Tests.{stable, or-right}
 use Rattle.relations.specs.Relation.{ThenMaybe, alone, followed, Plus, one, more}
 use Rattle.relations.specs.Walk.{Walk, end, link, Ring, sideBySide, sideBySideInRing}
 use Rattle.relations.proofs.Walks.{Acyclic}
@@ -26,17 +27,9 @@ walk-append : {K : Type 0} {L : K → ℕ → ℕ → Type 0} {ks ls : List K} {
 walk-append end w = w
 walk-append (link l v) w = link l (walk-append v w)
 
-stable : (b : Bool) → ¬ ¬ T b → T b
-stable true h = tt
-stable false h = absurd (h (λ t. t))
-
 or-mono : (a b c : Bool) → (T b → T c) → T (a || b) → T (a || c)
 or-mono true b c f t = tt
 or-mono false b c f t = f t
-
-or-right : (a b : Bool) → T b → T (a || b)
-or-right true b t = tt
-or-right false b t = t
 
 -- What stands side by side in a row of links does so in a row with more links behind it or one more in front.
 module _ {K : Type 0} (p : K → Bool) where

@@ -2,3 +2,4 @@ pub mod Updated
 pub mod Sound
 pub mod Missing
 pub mod Legal
+pub mod Links
