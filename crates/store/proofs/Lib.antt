@@ -3,3 +3,4 @@ pub mod Sound
 pub mod Missing
 pub mod Legal
 pub mod Links
+pub mod Run
