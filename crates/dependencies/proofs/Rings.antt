@@ -1,4 +1,4 @@
--- What the absence of closed walks says of rings. For links of any kinds, with a test for the kinds that are RW, and then for the four kinds. Assumes nothing.
+-- What the absence of closed walks says of rings: for links of any kinds, with a test for the kinds that are RW. Assumes nothing.
 use Prim.Native.Nat.{ℕ}
 use mathlib.Core.Path.{subst}
 use mathlib.Core.Bool.{Bool, true, false}
@@ -8,8 +8,7 @@ use lib.Dec.{T}
 use Rattle.relations.specs.Walk.{Ring, sideBySideInRing}
 use Rattle.relations.proofs.Walks.{Acyclic, plus-map, thenMaybe-map}
 use Rattle.relations.proofs.Rings.{Marked, walk-plus, ring-side-by-side}
-use Rattle.dependencies.specs.History.{History, RW, PlainLink, by-SO, by-WR, by-WW, Dependency, SnapshotStep}
-use Rattle.dependencies.specs.History.{LinkKind, isRW, Linked, is-SO, is-WR, is-WW, is-RW}
+use Rattle.dependencies.specs.History.{History, RW, PlainLink, Dependency, SnapshotStep}
 
 -- a link that is RW, or one that is not
 abbrev pub LinkThat : History → Bool → ℕ → ℕ → Type 0
@@ -33,17 +32,3 @@ module _ (H : History) where
     -- no closed walk of any links: there is no ring
     pub no-rings : Acyclic (Dependency H) → {k : K} {ks : List K} {a : ℕ} → ¬ Ring L k ks a
     no-rings h w = h _ (plus-map (λ x y l. dependency (p (l .0)) (means (l .0) x y (l .1))) (walk-plus w))
-
-  link-that : (k : LinkKind) (a b : ℕ) → Linked H k a b → LinkThat H (isRW k) a b
-  link-that k a b (is-SO s) = by-SO s
-  link-that k a b (is-WR s) = by-WR s
-  link-that k a b (is-WW s) = by-WW s
-  link-that k a b (is-RW s) = s
-
-  -- the same for the four kinds of link
-  pub linked-rings-have-RW-side-by-side : Acyclic (SnapshotStep H) → {k : LinkKind} {ks : List LinkKind} {a : ℕ}
-      → Ring (Linked H) k ks a → T (sideBySideInRing isRW k ks)
-  linked-rings-have-RW-side-by-side = rings-have-RW-side-by-side isRW (Linked H) link-that
-
-  pub no-linked-rings : Acyclic (Dependency H) → {k : LinkKind} {ks : List LinkKind} {a : ℕ} → ¬ Ring (Linked H) k ks a
-  no-linked-rings = no-rings isRW (Linked H) link-that

@@ -2,7 +2,6 @@
 -- quoted words are from there). These are meanings: nothing here computes, and nothing knows how a store is kept. Assumes nothing.
 use Prim.Native.Nat.{ℕ, _<_}
 use mathlib.Core.Path.{_≡_}
-use mathlib.Core.Bool.{Bool, true, false}
 use mathlib.Core.Logic.{_⊎_, _≢_}
 use Rattle.relations.specs.Relation.{ThenMaybe, Plus}
 
@@ -54,24 +53,6 @@ PrefixStep H a b = ThenMaybe (SO H) (RW H) a b ⊎ (ThenMaybe (WR H) (RW H) a b 
 -- a link of the path of clause 7: "SO;RW? or WR;RW? or WW;RW?"
 abbrev pub SnapshotStep : History → ℕ → ℕ → Type 0
 SnapshotStep H = ThenMaybe (PlainLink H) (RW H)
-
--- ---- links by kind, as a ring has them
-
-pub data LinkKind : Type 0 where
-  so-link wr-link ww-link rw-link : LinkKind
-
-pub data Linked (H : History) : LinkKind → ℕ → ℕ → Type 0 where
-  is-SO : {a b : ℕ} → SO H a b → Linked H so-link a b
-  is-WR : {a b : ℕ} → WR H a b → Linked H wr-link a b
-  is-WW : {a b : ℕ} → WW H a b → Linked H ww-link a b
-  is-RW : {a b : ℕ} → RW H a b → Linked H rw-link a b
-
--- "the read-to-overwrite link is RW"
-abbrev pub isRW : LinkKind → Bool
-isRW so-link = false
-isRW wr-link = false
-isRW ww-link = false
-isRW rw-link = true
 
 -- ---- clauses
 
