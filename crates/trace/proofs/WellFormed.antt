@@ -1,0 +1,86 @@
+-- What a trace that was read satisfies, and what a trace that is to be written must satisfy: one predicate for both. Assumes nothing.
+use Prim.Native.Nat.{ℕ, suc, _+_, _*_, _^_, _≤_, _<_, zero-le}
+use mathlib.Core.Path.{_≡_}
+use mathlib.Core.List.{List, [], _∷_}
+use native.Mathlib.Omega.{arith}
+use lib.Dec.{lit≤}
+use lib.ListN.{length}
+use Rattle.store.specs.Limits.{maxKeys, maxClients, maxCommits, maxBytes}
+use Rattle.store.specs.Store.{Client, View, Access, read, write, Operation, Commit, Event, shift, commit}
+use Rattle.trace.specs.Format.{Trace, commitsWith}
+use Rattle.trace.specs.Encode.{accessNumber, encode}
+
+-- ---- operations
+
+-- the place of an operation in the order "by key and then kind, a read before a write"
+abbrev pub rank : Operation → ℕ
+rank o = 2 * o .key + accessNumber (o .access)
+
+-- an operation of a key of the store, with a value of 32 bits, of rank `low` or more
+pub record FitsOperation (keys low : ℕ) (o : Operation) : Type 0 where
+  pub of-the-store : o .key < keys
+  pub value-fits : o .value < 2 ^ 32
+  pub no-lower : low ≤ rank o
+
+-- "Operations rise strictly by key and then kind"
+abbrev pub Rise : ℕ → ℕ → List Operation → Type 0
+Rise keys low [] = Unit {0}
+Rise keys low (o ∷ os) = FitsOperation keys low o × Rise keys (suc (rank o)) os
+
+pub accessNumber-le-one : (a : Access) → accessNumber a ≤ 1
+accessNumber-le-one read = zero-le
+accessNumber-le-one write = lit≤ tt
+
+rising-length-from : (keys low : ℕ) (os : List Operation) → low ≤ 2 * keys → Rise keys low os → low + length os ≤ 2 * keys
+rising-length-from keys low [] h r = omega arith
+rising-length-from keys low (o ∷ os) h r =
+    let kind = accessNumber-le-one (o .access) in
+    let first = r .0 in
+    let rest = rising-length-from keys (suc (rank o)) os (omega arith) (r .1) in
+    omega arith
+
+-- "so a key has at most one of each"
+pub rising-length : (keys : ℕ) (os : List Operation) → Rise keys 0 os → length os ≤ 2 * keys
+rising-length keys os r = omega (arith, rising-length-from keys 0 os zero-le r)
+
+-- ---- records
+
+-- masks of 64 bits, and none at a key that the store does not have
+pub record FitsView (keys : ℕ) (u : View) : Type 0 where
+  pub mask-fits : (k : ℕ) → u k < 2 ^ 64
+  pub none-beyond : (k : ℕ) → keys ≤ k → u k ≡ 0
+
+pub record FitsShift (keys clients : ℕ) (d : Client) (u : View) : Type 0 where
+  pub client-below : d < clients
+  pub view-fits : FitsView keys u
+
+pub record FitsCommit (keys clients : ℕ) (c : Commit) : Type 0 where
+  pub client-below : c .client < clients
+  pub session-fits : c .session < 2 ^ 32
+  pub rising : Rise keys 0 (c .operations)
+  pub view-fits : FitsView keys (c .viewAfter)
+
+abbrev pub FitsEvent : ℕ → ℕ → Event → Type 0
+FitsEvent keys clients (shift d u) = FitsShift keys clients d u
+FitsEvent keys clients (commit c) = FitsCommit keys clients c
+
+abbrev pub FitsEvents : ℕ → ℕ → List Event → Type 0
+FitsEvents keys clients [] = Unit {0}
+FitsEvents keys clients (e ∷ es) = FitsEvent keys clients e × FitsEvents keys clients es
+
+-- how many commits there are
+unfoldable pub commitsIn : List Event → ℕ
+commitsIn [] = 0
+commitsIn (e ∷ es) = commitsWith e (commitsIn es)
+
+-- ---- the trace
+
+pub record WellFormed (t : Trace) : Type 0 where
+  pub some-key : 1 ≤ t .keys
+  pub few-keys : t .keys ≤ maxKeys
+  pub some-client : 1 ≤ t .clients
+  pub few-clients : t .clients ≤ maxClients
+  pub few-records : length (t .events) < 65536
+  pub few-commits : commitsIn (t .events) ≤ maxCommits
+  pub short : length (encode t) ≤ maxBytes
+  pub fitting : FitsEvents (t .keys) (t .clients) (t .events)
