@@ -1,2 +1,4 @@
 pub mod Sizes
 pub mod WellFormed
+pub mod Tests
+pub mod Decoded
