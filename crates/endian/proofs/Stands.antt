@@ -63,8 +63,8 @@ module _ {s : List ℕ} {at : ℕ} where
 
 module _ {s : List ℕ} {at : ℕ} where
   -- what stands behind a number
-  pub stands-behind : (n v : ℕ) (b : List ℕ) → Stands s at (leBytes n v ++ b) → Stands s (at + n) b
-  stands-behind n v b h = stands-at (ap (λ k. at + k) (length-leBytes n v)) (stands-second (leBytes n v) b h)
+  pub stands-behind : (n v : ℕ) (b : List ℕ) (place : ℕ) → at + n ≡ place → Stands s at (leBytes n v ++ b) → Stands s place b
+  stands-behind n v b place e h = stands-at (ap (λ k. at + k) (length-leBytes n v) ∙ e) (stands-second (leBytes n v) b h)
 
   -- one of several pieces of one length
   pub stands-piece : (n w k : ℕ) (f : ℕ → List ℕ) → ((j : ℕ) → length (f j) ≡ w) → k < n → Stands s at (pieces n f) → Stands s (at + w * k) (f k)
@@ -81,8 +81,12 @@ module _ {s : List ℕ} {at : ℕ} where
       ∙ leAt-leBytes n v (h .before) (h .after)
 
   -- as it is, where its width is enough
-  pub read-number-below : (n v : ℕ) → v < 256 ^ n → Stands s at (leBytes n v) → leAt s at n ≡ v
-  read-number-below n v h stands = read-number n v stands ∙ mod-eq-of-lt h
+  pub read-fitting : (n v : ℕ) → v < 256 ^ n → Stands s at (leBytes n v) → leAt s at n ≡ v
+  read-fitting n v fits h = read-number n v h ∙ mod-eq-of-lt fits
+
+  -- also with something behind it
+  pub read-first : (n v : ℕ) (b : List ℕ) → v < 256 ^ n → Stands s at (leBytes n v ++ b) → leAt s at n ≡ v
+  read-first n v b fits h = read-fitting n v fits (stands-first (leBytes n v) b h)
 
 -- one of several numbers of one width reads back
 pub leAt-pieces : (n w k : ℕ) (g : ℕ → ℕ) (p q : List ℕ) → k < n

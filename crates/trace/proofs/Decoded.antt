@@ -11,13 +11,13 @@ use Rattle.search.proofs.Choose.{choose-no, choose-ind, need-ind}
 use Rattle.endian.specs.Endian.{Bytes, leAt}
 use Rattle.endian.proofs.Laws.{leAt-lt}
 use Rattle.store.specs.Limits.{maxCommits, minBytes, maxBytes}
-use Rattle.store.specs.Store.{Event, shift, commit}
+use Rattle.store.specs.Store.{Event}
 use Rattle.trace.specs.Result.{Result, refused, taken, onTaken}
 use Rattle.trace.specs.Format.{Header, Trace, viewAt, accessOf, operationAt, operationsAt, rankAt, operationFits, operationsFit, Record, misshapen, whole, shiftAt, commitLength, commitOf, commitAt, recordAt, commitsWith, onRecord, eventsFrom, headerAt, withinLimits, decode}
 use Rattle.trace.specs.Encode.{accessNumber, encode}
 use Rattle.trace.proofs.Sizes.{eventLength, eventsLength, length-encode}
 use Rattle.trace.proofs.Tests.{operationFits-is, withinLimits-is}
-use Rattle.trace.proofs.WellFormed.{rank, FitsOperation, Rise, FitsView, FitsEvent, FitsEvents, commitsIn, WellFormed}
+use Rattle.trace.proofs.WellFormed.{rank, FitsOperation, Rise, FitsView, FitsEvent, FitsEvents, commitsIn, commitsWith-commitsIn, WellFormed}
 
 -- ---- answers
 
@@ -64,17 +64,12 @@ none-read : (s : List ℕ) (h : Header) (at commits : ℕ) → commits ≤ maxCo
 unfolding commitsIn eventsLength
 none-read s h at commits few done = record { fitting = tt; counted = refl; few-commits = omega arith; to-the-end = omega arith }
 
-commits-before : (e : Event) (es : List Event) (commits : ℕ) → commitsWith e commits + commitsIn es ≡ commits + commitsIn (e ∷ es)
-unfolding commitsIn
-commits-before (shift d u) es commits = refl
-commits-before (commit c) es commits = omega arith
-
 -- of a record and those after it
 one-more-read : (s : List ℕ) (h : Header) (left at commits : ℕ) (e : Event) (es : List Event) → FitsEvent (h .keys) (h .clients) e
     → EventsRead s h left (at + eventLength (h .keys) e) (commitsWith e commits) es → EventsRead s h (suc left) at commits (e ∷ es)
 unfolding eventsLength
 one-more-read s h left at commits e es fits rest =
-    let total = commits-before e es commits in
+    let total = commitsWith-commitsIn e es commits in
     let size = eventLength (h .keys) e in
     record { fitting = (fits, rest .fitting); counted = ap suc (rest .counted); few-commits = omega arith; to-the-end = omega arith }
 

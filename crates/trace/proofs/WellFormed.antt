@@ -1,6 +1,6 @@
 -- What a trace that was read satisfies, and what a trace that is to be written must satisfy: one predicate for both. Assumes nothing.
 use Prim.Native.Nat.{ℕ, suc, _+_, _*_, _^_, _≤_, _<_, zero-le}
-use mathlib.Core.Path.{_≡_}
+use mathlib.Core.Path.{_≡_, refl}
 use mathlib.Core.List.{List, [], _∷_}
 use native.Mathlib.Omega.{arith}
 use lib.Dec.{lit≤}
@@ -72,6 +72,12 @@ FitsEvents keys clients (e ∷ es) = FitsEvent keys clients e × FitsEvents keys
 unfoldable pub commitsIn : List Event → ℕ
 commitsIn [] = 0
 commitsIn (e ∷ es) = commitsWith e (commitsIn es)
+
+-- those up to and with a record, and those after it
+pub commitsWith-commitsIn : (e : Event) (es : List Event) (commits : ℕ) → commitsWith e commits + commitsIn es ≡ commits + commitsIn (e ∷ es)
+unfolding commitsIn
+commitsWith-commitsIn (shift d u) es commits = refl
+commitsWith-commitsIn (commit c) es commits = omega arith
 
 -- ---- the trace
 
