@@ -37,7 +37,7 @@ module _ {s : List ℕ} {at : ℕ} where
   pub stands-within : {b : List ℕ} → Stands s at b → at + length b ≤ length s
   stands-within {b} h =
       let whole : length s ≡ length (h .before) + (length b + length (h .after)) =
-          ap length (h .split) ∙ length-append (h .before) (b ++ h .after) ∙ ap (λ k. length (h .before) + k) (length-append b (h .after)) in
+      ap length (h .split) ∙ length-append (h .before) (b ++ h .after) ∙ ap (λ k. length (h .before) + k) (length-append b (h .after)) in
       let front = h .place in
       omega arith
 
@@ -47,7 +47,7 @@ module _ {s : List ℕ} {at : ℕ} where
     before = h .before;
     after = b ++ h .after;
     place = h .place;
-    split = h .split ∙ ap (λ (l : List ℕ). h .before ++ l) (append-assoc a b (h .after))
+    split = h .split ∙ ap (λ (l : List ℕ). h .before ++ l) (append-assoc a b (h .after));
   }
 
   -- the second part, behind the first
@@ -56,7 +56,7 @@ module _ {s : List ℕ} {at : ℕ} where
     before = h .before ++ a;
     after = h .after;
     place = length-append (h .before) a ∙ ap (λ k. k + length a) (h .place);
-    split = h .split ∙ ap (λ (l : List ℕ). h .before ++ l) (append-assoc a b (h .after)) ∙ sym (append-assoc (h .before) a (b ++ h .after))
+    split = h .split ∙ ap (λ (l : List ℕ). h .before ++ l) (append-assoc a b (h .after)) ∙ sym (append-assoc (h .before) a (b ++ h .after));
   }
 
 -- ---- numbers and pieces

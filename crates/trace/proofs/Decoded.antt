@@ -21,29 +21,17 @@ use Rattle.trace.proofs.WellFormed.{rank, FitsOperation, Rise, FitsView
 
 -- ---- answers
 
--- what is taken satisfies P
+-- if something is taken, it satisfies P
 abbrev pub IfTaken : {A : Type 0} → (A → Type 0) → Result A → Type 0
 IfTaken P (refused r) = Unit {0}
 IfTaken P (taken a) = P a
 
+-- what goes on with a value that satisfies Q
 pub onTaken-ind : {A B : Type 0} (Q : A → Type 0) (P : B → Type 0) (x : Result A) (f : A → Result B)
     → IfTaken Q x → ((a : A) → Q a → IfTaken P (f a)) → IfTaken P (onTaken x f)
 unfolding onTaken
 onTaken-ind Q P (refused r) f q g = tt
 onTaken-ind Q P (taken a) f q g = g a q
-
--- ---- operations
-
-pub accessNumber-accessOf : (n : ℕ) → n ≤ 1 → accessNumber (accessOf n) ≡ n
-unfolding accessOf
-accessNumber-accessOf zero h = refl
-accessNumber-accessOf (suc zero) h = refl
-accessNumber-accessOf (suc (suc n)) h = absurd (omega arith)
-
-pub length-operationsAt : (s : List ℕ) (at m : ℕ) → length (operationsAt s at m) ≡ m
-unfolding operationsAt
-length-operationsAt s at zero = refl
-length-operationsAt s at (suc m) = ap suc (length-operationsAt s (at + 8) m)
 
 -- ---- what holds of what is read
 
@@ -81,28 +69,45 @@ trace-read : (s : List ℕ) (h : Header) (es : List Event) → T (withinLimits h
     → EventsRead s h (h .records) minBytes 0 es → TraceRead s (record { keys = h .keys; clients = h .clients; events = es })
 trace-read s h es limits short counted rest =
     let (some-key, few-keys, some-client, few-clients) = withinLimits-is h .0 limits in
-    let size = length-encode (record { keys = h .keys; clients = h .clients; events = es }) in
-    (record {
-      some-key = some-key;
-      few-keys = few-keys;
-      some-client = some-client;
-      few-clients = few-clients;
-      few-records = omega arith;
-      few-commits = omega arith;
-      short = omega arith;
-      fitting = rest .fitting
-    }, omega arith)
+    let size = length-encode (record { keys = h .keys; clients = h .clients; events = es }) in (
+      record {
+        some-key = some-key;
+        few-keys = few-keys;
+        some-client = some-client;
+        few-clients = few-clients;
+        few-records = omega arith;
+        few-commits = omega arith;
+        short = omega arith;
+        fitting = rest .fitting;
+      },
+      omega arith,
+    )
 
 -- ---- views and operations
 
+-- the number of an access that was read is the number that was read
+pub accessNumber-accessOf : (n : ℕ) → n ≤ 1 → accessNumber (accessOf n) ≡ n
+unfolding accessOf
+accessNumber-accessOf zero h = refl
+accessNumber-accessOf (suc zero) h = refl
+accessNumber-accessOf (suc (suc n)) h = absurd (omega arith)
+
+-- as many operations as asked for
+pub length-operationsAt : (s : List ℕ) (at m : ℕ) → length (operationsAt s at m) ≡ m
+unfolding operationsAt
+length-operationsAt s at zero = refl
+length-operationsAt s at (suc m) = ap suc (length-operationsAt s (at + 8) m)
+
 module _ (s : List ℕ) (bytes : Bytes s) where
+  -- a view has masks of 64 bits, and none beyond its keys
   view-read : (at keys : ℕ) → FitsView keys (viewAt s at keys)
   unfolding viewAt
   view-read at keys = record {
     mask-fits = λ k. choose-ind (λ m. m < 2 ^ 64) (ltb k keys) (leAt s (at + 8 * k) 8) 0 (λ t. leAt-lt s bytes 8 (at + 8 * k)) (λ t. lit< tt);
-    none-beyond = λ k beyond. choose-no (ltb k keys) (leAt s (at + 8 * k) 8) 0 (no-ltb beyond)
+    none-beyond = λ k beyond. choose-no (ltb k keys) (leAt s (at + 8 * k) 8) 0 (no-ltb beyond);
   }
 
+  -- an operation that passes its test fits, and its rank is the one tested
   operation-read : (at keys low : ℕ) → T (operationFits s at keys low)
       → FitsOperation keys low (operationAt s at) × (rank (operationAt s at) ≡ rankAt s at)
   operation-read at keys low t =
@@ -110,6 +115,7 @@ module _ (s : List ℕ) (bytes : Bytes s) where
       let number = accessNumber-accessOf (leAt s at 1) access in
       (record { of-the-store = key; value-fits = leAt-lt s bytes 4 (at + 4); no-lower = omega arith }, omega arith)
 
+  -- operations that pass rise
   operations-read : (m at keys low : ℕ) → T (operationsFit s at keys low m) → Rise keys low (operationsAt s at m)
   unfolding operationsFit operationsAt
   operations-read zero at keys low t = tt
@@ -135,13 +141,16 @@ module _ (s : List ℕ) (bytes : Bytes s) where
       need-ind (ReadAt s h at) _ _ _ tt (λ size.
       need-ind (ReadAt s h at) _ _ _ tt (λ within.
       need-ind (ReadAt s h at) _ _ _ tt (λ client.
-      need-ind (ReadAt s h at) _ _ _ tt (λ fit.
-      (record {
-        client-below = ltb→lt _ _ client;
-        session-fits = leAt-lt s bytes 4 (at + 6);
-        rising = operations-read m (at + 10) (h .keys) 0 fit;
-        view-fits = view-read (at + (10 + 8 * m)) (h .keys)
-      }, ap (λ k. at + commitLength (h .keys) k) (sym (length-operationsAt s (at + 10) m)), leb→le _ _ within)))))
+      need-ind (ReadAt s h at) _ _ _ tt (λ fit. (
+        record {
+          client-below = ltb→lt _ _ client;
+          session-fits = leAt-lt s bytes 4 (at + 6);
+          rising = operations-read m (at + 10) (h .keys) 0 fit;
+          view-fits = view-read (at + (10 + 8 * m)) (h .keys);
+        },
+        ap (λ k. at + commitLength (h .keys) k) (sym (length-operationsAt s (at + 10) m)),
+        leb→le _ _ within,
+      )))))
 
   commit-read : (h : Header) (at : ℕ) → ReadAt s h at (commitAt s h at)
   unfolding commitAt
@@ -157,6 +166,7 @@ module _ (s : List ℕ) (bytes : Bytes s) where
 
   -- ---- all records
 
+  -- going on after a record
   on-record-read : {A : Type 0} (P : A → Type 0) (h : Header) (at n commits : ℕ) (f : Event → ℕ → ℕ → Result A) (r : Record) → ReadAt s h at r
       → ((e : Event) → FitsEvent (h .keys) (h .clients) e → commitsWith e commits ≤ maxCommits → IfTaken P (f e (at + eventLength (h .keys) e) (commitsWith e commits)))
       → IfTaken P (onRecord r n commits f)
@@ -174,10 +184,11 @@ module _ (s : List ℕ) (bytes : Bytes s) where
       on-record-read (EventsRead s h (suc left) at commits) h at n commits _ (recordAt s h at) (record-read h at) (λ e fits count.
       let next = at + eventLength (h .keys) e in
       onTaken-ind (EventsRead s h left next (commitsWith e commits)) (EventsRead s h (suc left) at commits) _ _
-        (events-read h left next (suc n) (commitsWith e commits) count) (λ es rest. one-more-read s h left at commits e es fits rest))
+      (events-read h left next (suc n) (commitsWith e commits) count) (λ es rest. one-more-read s h left at commits e es fits rest))
 
   -- ---- the file
 
+  -- what holds of the trace of the file
   file-read : IfTaken (TraceRead s) (decode s)
   unfolding decode
   file-read =
@@ -188,8 +199,8 @@ module _ (s : List ℕ) (bytes : Bytes s) where
       need-ind (IfTaken (TraceRead s)) _ _ _ tt (λ kind.
       need-ind (IfTaken (TraceRead s)) _ _ _ tt (λ limits.
       onTaken-ind (EventsRead s (headerAt s) (headerAt s .records) minBytes 0) (TraceRead s) _ _
-        (events-read (headerAt s) (headerAt s .records) minBytes 1 0 zero-le)
-        (λ es rest. trace-read s (headerAt s) es limits (leb→le _ _ most) (leAt-lt s bytes 2 10) rest)))))))
+      (events-read (headerAt s) (headerAt s .records) minBytes 1 0 zero-le)
+      (λ es rest. trace-read s (headerAt s) es limits (leb→le _ _ most) (leAt-lt s bytes 2 10) rest)))))))
 
   -- a trace that was read is well-formed
   pub decoded-well-formed : (t : Trace) → decode s ≡ taken t → WellFormed t

@@ -23,6 +23,10 @@ use Rattle.trace.proofs.Sizes.{length-operationBytes, length-operations
 use Rattle.trace.proofs.Tests.{operationFits-is, withinLimits-is}
 use Rattle.trace.proofs.WellFormed.{rank, FitsOperation, Rise, accessNumber-le-one, rising-length, FitsView, FitsShift, FitsCommit, FitsEvent, FitsEvents, commitsIn, commitsWith-commitsIn, WellFormed}
 
+-- the header of a trace
+abbrev headerOf : Trace → Header
+headerOf t = record { keys = t .keys; clients = t .clients; records = length (t .events) }
+
 -- ---- views and operations
 
 accessOf-accessNumber : (a : Access) → accessOf (accessNumber a) ≡ a
@@ -30,11 +34,8 @@ unfolding accessOf
 accessOf-accessNumber read = refl
 accessOf-accessNumber write = refl
 
--- the header of a trace
-abbrev headerOf : Trace → Header
-headerOf t = record { keys = t .keys; clients = t .clients; records = length (t .events) }
-
 module _ (s : List ℕ) where
+  -- the masks of a view
   view-back : (at keys : ℕ) (u : View) → FitsView keys u → Stands s at (viewBytes keys u) → viewAt s at keys ≡ u
   unfolding viewAt viewBytes
   view-back at keys u fits h = fun-ext (λ k. at-key k (decLt k keys))
@@ -57,15 +58,18 @@ module _ (s : List ℕ) where
       let from-value = stands-behind 2 _ _ (at + 4) (omega arith) from-zeros in
       (read-first 1 _ _ (omega arith) h, read-first 1 _ _ key from-key, read-first 2 _ _ (lit< tt) from-zeros, read-fitting 4 _ value from-value)
 
+  -- an operation, which passes its test
   operation-back : (at keys low : ℕ) (o : Operation) → keys ≤ maxKeys → FitsOperation keys low o → Stands s at (operationBytes o)
       → (operationAt s at ≡ o) × (rankAt s at ≡ rank o) × T (operationFits s at keys low)
   operation-back at keys low o few fits h =
       let (access, key, zeros, value) = operation-numbers at o (omega arith) (fits .value-fits) h in
-      let kind = accessNumber-le-one (o .access) in
-      (λ i. record { access = (ap accessOf access ∙ accessOf-accessNumber (o .access)) i; key = key i; value = value i },
-       omega arith,
-       operationFits-is s at keys low .1 (omega arith, omega arith, zeros, omega arith))
+      let kind = accessNumber-le-one (o .access) in (
+        λ i. record { access = (ap accessOf access ∙ accessOf-accessNumber (o .access)) i; key = key i; value = value i },
+        omega arith,
+        operationFits-is s at keys low .1 (omega arith, omega arith, zeros, omega arith),
+      )
 
+  -- all operations
   operations-back : (os : List Operation) (at keys low : ℕ) → keys ≤ maxKeys → Rise keys low os → Stands s at (operationsBytes os)
       → (operationsAt s at (length os) ≡ os) × T (operationsFit s at keys low (length os))
   unfolding operationsBytes operationsAt operationsFit
@@ -78,6 +82,7 @@ module _ (s : List ℕ) where
 
   -- ---- one record
 
+  -- a record of kind 2
   shift-back : (h : Header) (at : ℕ) (d : Client) (u : View) → h .keys ≤ maxKeys → h .clients ≤ maxClients → FitsShift (h .keys) (h .clients) d u
       → Stands s at (eventBytes (h .keys) (shift d u)) → recordAt s h at ≡ whole (shift d u) (at + shiftLength (h .keys))
   unfolding eventBytes recordAt shiftAt
@@ -104,6 +109,7 @@ module _ (s : List ℕ) where
       ∙ need-yes _ _ _ (yes-eqb spare)
       ∙ ap₂ (λ e v. whole (shift e v) (at + shiftLength (h .keys))) client view
 
+  -- a record of kind 3
   commit-back : (h : Header) (at : ℕ) (c : Commit) → h .keys ≤ maxKeys → h .clients ≤ maxClients → FitsCommit (h .keys) (h .clients) c
       → Stands s at (eventBytes (h .keys) (commit c)) → recordAt s h at ≡ whole (commit c) (at + commitLength (h .keys) (length (c .operations)))
   unfolding eventBytes recordAt commitAt commitOf
@@ -142,6 +148,7 @@ module _ (s : List ℕ) where
       ∙ need-yes _ _ _ fit
       ∙ (λ i. whole (commit (record { client = client i; session = session i; operations = operations i; viewAfter = view i })) (at + commitLength (h .keys) m))
 
+  -- a record of either kind, and where the next one starts
   event-back : (h : Header) (at : ℕ) (e : Event) → h .keys ≤ maxKeys → h .clients ≤ maxClients → FitsEvent (h .keys) (h .clients) e
       → Stands s at (eventBytes (h .keys) e) → recordAt s h at ≡ whole e (at + eventLength (h .keys) e)
   event-back h at (shift d u) few-keys few-clients fits stands = shift-back h at d u few-keys few-clients fits stands
@@ -149,6 +156,7 @@ module _ (s : List ℕ) where
 
   -- ---- all records
 
+  -- the records up to the end of the file
   events-back : (h : Header) (es : List Event) (at n commits : ℕ) → h .keys ≤ maxKeys → h .clients ≤ maxClients → FitsEvents (h .keys) (h .clients) es
       → commits + commitsIn es ≤ maxCommits → at + eventsLength (h .keys) es ≡ length s → Stands s at (eventsBytes (h .keys) es)
       → eventsFrom s h (length es) at n commits ≡ taken es
@@ -184,12 +192,13 @@ module _ (s : List ℕ) where
       let from-count = stands-behind 1 _ _ 10 refl from-clients in
       let keys = read-first 1 _ _ (omega arith) from-keys in
       let clients = read-first 1 _ _ (omega arith) from-clients in
-      let records = read-first 2 _ _ (w .few-records) from-count in
-      (read-first 4 _ _ (omega arith) stands ∙ omega arith,
-       read-first 2 _ _ (lit< tt) from-header,
-       read-first 2 _ _ (lit< tt) from-kind,
-       λ i. record { keys = keys i; clients = clients i; records = records i },
-       stands-behind 2 _ _ 12 refl from-count)
+      let records = read-first 2 _ _ (w .few-records) from-count in (
+        read-first 4 _ _ (omega arith) stands ∙ omega arith,
+        read-first 2 _ _ (lit< tt) from-header,
+        read-first 2 _ _ (lit< tt) from-kind,
+        λ i. record { keys = keys i; clients = clients i; records = records i },
+        stands-behind 2 _ _ 12 refl from-count,
+      )
 
   -- the trace that a header and events make
   trace-back : (t : Trace) → headerAt s ≡ headerOf t → eventsFrom s (headerOf t) (length (t .events)) minBytes 1 0 ≡ taken (t .events)
@@ -199,6 +208,7 @@ module _ (s : List ℕ) where
       (λ i. onTaken (eventsFrom s (header i) (header i .records) minBytes 1 0) (λ es. taken (record { keys = header i .keys; clients = header i .clients; events = es })))
       ∙ ap (λ r. onTaken r (λ es. taken (record { keys = t .keys; clients = t .clients; events = es }))) events
 
+  -- a file that is nothing but the file of the trace
   file-back : (t : Trace) → WellFormed t → length s ≡ length (encode t) → Stands s 0 (encode t) → decode s ≡ taken t
   unfolding decode
   file-back t w same stands =

@@ -7,8 +7,9 @@ use lib.Dec.{lit≤}
 use lib.ListN.{length}
 use Rattle.store.specs.Limits.{maxKeys, maxClients, maxCommits, maxBytes}
 use Rattle.store.specs.Store.{Client, View, Access, read, write, Operation, Commit, Event, shift, commit}
-use Rattle.trace.specs.Format.{Trace, commitsWith}
+use Rattle.trace.specs.Format.{Trace, commitLength, commitsWith}
 use Rattle.trace.specs.Encode.{accessNumber, encode}
+use Rattle.trace.proofs.Sizes.{eventLength, eventsLength}
 
 -- ---- operations
 
@@ -27,6 +28,7 @@ abbrev pub Rise : ℕ → ℕ → List Operation → Type 0
 Rise keys low [] = Unit {0}
 Rise keys low (o ∷ os) = FitsOperation keys low o × Rise keys (suc (rank o)) os
 
+-- "0 read or 1 write"
 pub accessNumber-le-one : (a : Access) → accessNumber a ≤ 1
 accessNumber-le-one read = zero-le
 accessNumber-le-one write = lit≤ tt
@@ -50,10 +52,12 @@ pub record FitsView (keys : ℕ) (u : View) : Type 0 where
   pub mask-fits : (k : ℕ) → u k < 2 ^ 64
   pub none-beyond : (k : ℕ) → keys ≤ k → u k ≡ 0
 
+-- "client not below the header's" is refused
 pub record FitsShift (keys clients : ℕ) (d : Client) (u : View) : Type 0 where
   pub client-below : d < clients
   pub view-fits : FitsView keys u
 
+-- "session numbers are u32"; the number of operations fits its byte by `rising-length`
 pub record FitsCommit (keys clients : ℕ) (c : Commit) : Type 0 where
   pub client-below : c .client < clients
   pub session-fits : c .session < 2 ^ 32
@@ -68,6 +72,21 @@ abbrev pub FitsEvents : ℕ → ℕ → List Event → Type 0
 FitsEvents keys clients [] = Unit {0}
 FitsEvents keys clients (e ∷ es) = FitsEvent keys clients e × FitsEvents keys clients es
 
+-- no record is longer than a commit with a read and a write of each of 16 keys: 394 bytes
+pub event-size : (keys clients : ℕ) (e : Event) → keys ≤ maxKeys → FitsEvent keys clients e → eventLength keys e ≤ commitLength maxKeys (2 * maxKeys)
+event-size keys clients (shift d u) few fits = omega arith
+event-size keys clients (commit c) few fits = let ops = rising-length keys (c .operations) (fits .rising) in omega arith
+
+-- so a bound on the records of a file by their number
+pub events-size : (keys clients : ℕ) (es : List Event) → keys ≤ maxKeys → FitsEvents keys clients es
+    → eventsLength keys es ≤ commitLength maxKeys (2 * maxKeys) * length es
+unfolding eventsLength
+events-size keys clients [] few fits = zero-le
+events-size keys clients (e ∷ es) few fits =
+    let first = event-size keys clients e few (fits .0) in
+    let rest = events-size keys clients es few (fits .1) in
+    omega arith
+
 -- how many commits there are
 unfoldable pub commitsIn : List Event → ℕ
 commitsIn [] = 0
@@ -81,6 +100,7 @@ commitsWith-commitsIn (commit c) es commits = omega arith
 
 -- ---- the trace
 
+-- "Keys 1 to 16, clients 1 to 16, commits 0 to 63, file 12 to 65,536 bytes"; "count u16 of records that follow"
 pub record WellFormed (t : Trace) : Type 0 where
   pub some-key : 1 ≤ t .keys
   pub few-keys : t .keys ≤ maxKeys
