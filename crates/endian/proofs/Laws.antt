@@ -18,6 +18,10 @@ unfolding leBytes
 length-leBytes zero v = refl
 length-leBytes (suc n) v = ap suc (length-leBytes n (v / 256))
 
+-- a number in front of something
+pub length-leBytes-append : (n v : ℕ) (b : List ℕ) → length (leBytes n v ++ b) ≡ n + length b
+length-leBytes-append n v b = length-append (leBytes n v) b ∙ ap (λ k. k + length b) (length-leBytes n v)
+
 pub bytes-none : Bytes []
 bytes-none i = lit< tt
 
@@ -31,6 +35,9 @@ unfolding leBytes
 bytes-leBytes zero v i = bytes-none i
 bytes-leBytes (suc n) v zero = mod-lt v (lit< tt)
 bytes-leBytes (suc n) v (suc i) = bytes-leBytes n (v / 256) i
+
+pub bytes-leBytes-append : (n v : ℕ) (b : List ℕ) → Bytes b → Bytes (leBytes n v ++ b)
+bytes-leBytes-append n v b h = bytes-append (leBytes n v) b (bytes-leBytes n v) h
 
 -- ---- a number in two parts
 

@@ -1,19 +1,15 @@
 -- The file of a trace is a list of bytes, whatever the trace. Assumes nothing.
 use Prim.Native.Nat.{ℕ}
-use mathlib.Core.List.{List, [], _∷_, _++_}
+use mathlib.Core.List.{List, [], _∷_}
 use Rattle.endian.specs.Endian.{Bytes, leBytes}
-use Rattle.endian.proofs.Laws.{bytes-none, bytes-append, bytes-leBytes, bytes-pieces}
+use Rattle.endian.proofs.Laws.{bytes-none, bytes-append, bytes-leBytes, bytes-leBytes-append, bytes-pieces}
 use Rattle.store.specs.Store.{View, Operation, Event, shift, commit}
 use Rattle.trace.specs.Format.{Trace}
 use Rattle.trace.specs.Encode.{operationBytes, operationsBytes, viewBytes, eventBytes, eventsBytes, fileBody, encode}
 
--- a number in front of bytes
-bytes-number : (n v : ℕ) (b : List ℕ) → Bytes b → Bytes (leBytes n v ++ b)
-bytes-number n v b h = bytes-append (leBytes n v) b (bytes-leBytes n v) h
-
 operation-bytes : (o : Operation) → Bytes (operationBytes o)
 unfolding operationBytes
-operation-bytes o = bytes-number _ _ _ (bytes-number _ _ _ (bytes-number _ _ _ (bytes-leBytes _ _)))
+operation-bytes o = bytes-leBytes-append _ _ _ (bytes-leBytes-append _ _ _ (bytes-leBytes-append _ _ _ (bytes-leBytes _ _)))
 
 operations-bytes : (os : List Operation) → Bytes (operationsBytes os)
 unfolding operationsBytes
@@ -26,9 +22,9 @@ view-bytes keys u = bytes-pieces keys (λ k. leBytes 8 (u k)) (λ k. bytes-leByt
 
 event-bytes : (keys : ℕ) (e : Event) → Bytes (eventBytes keys e)
 unfolding eventBytes
-event-bytes keys (shift d u) = bytes-number _ _ _ (bytes-number _ _ _ (bytes-number _ _ _ (bytes-number _ _ _ (view-bytes keys u))))
+event-bytes keys (shift d u) = bytes-leBytes-append _ _ _ (bytes-leBytes-append _ _ _ (bytes-leBytes-append _ _ _ (bytes-leBytes-append _ _ _ (view-bytes keys u))))
 event-bytes keys (commit c) =
-    bytes-number _ _ _ (bytes-number _ _ _ (bytes-number _ _ _ (bytes-number _ _ _ (bytes-number _ _ _
+    bytes-leBytes-append _ _ _ (bytes-leBytes-append _ _ _ (bytes-leBytes-append _ _ _ (bytes-leBytes-append _ _ _ (bytes-leBytes-append _ _ _
     (bytes-append (operationsBytes (c .operations)) (viewBytes keys (c .viewAfter)) (operations-bytes (c .operations)) (view-bytes keys (c .viewAfter)))))))
 
 events-bytes : (keys : ℕ) (es : List Event) → Bytes (eventsBytes keys es)
@@ -38,8 +34,8 @@ events-bytes keys (e ∷ es) = bytes-append (eventBytes keys e) (eventsBytes key
 
 body-bytes : (t : Trace) → Bytes (fileBody t)
 unfolding fileBody
-body-bytes t = bytes-number _ _ _ (bytes-number _ _ _ (bytes-number _ _ _ (bytes-number _ _ _ (bytes-number _ _ _ (events-bytes (t .keys) (t .events))))))
+body-bytes t = bytes-leBytes-append _ _ _ (bytes-leBytes-append _ _ _ (bytes-leBytes-append _ _ _ (bytes-leBytes-append _ _ _ (bytes-leBytes-append _ _ _ (events-bytes (t .keys) (t .events))))))
 
 pub encode-bytes : (t : Trace) → Bytes (encode t)
 unfolding encode
-encode-bytes t = bytes-number _ _ _ (body-bytes t)
+encode-bytes t = bytes-leBytes-append _ _ _ (body-bytes t)

@@ -1,22 +1,18 @@
 -- How long the file of a trace is, record by record. Assumes nothing.
 use Prim.Native.Nat.{ℕ, _+_, _*_}
-use mathlib.Core.Path.{_≡_, refl, ap, ap₂, _∙_}
-use mathlib.Core.List.{List, [], _∷_, _++_}
+use mathlib.Core.Path.{_≡_, refl, ap₂, _∙_}
+use mathlib.Core.List.{List, [], _∷_}
 use native.Mathlib.Omega.{arith}
 use lib.ListN.{length, length-append}
 use Rattle.endian.specs.Endian.{leBytes}
-use Rattle.endian.proofs.Laws.{length-leBytes, length-pieces}
+use Rattle.endian.proofs.Laws.{length-leBytes, length-leBytes-append, length-pieces}
 use Rattle.store.specs.Store.{View, Operation, Event, shift, commit}
 use Rattle.trace.specs.Format.{Trace, shiftLength, commitLength}
 use Rattle.trace.specs.Encode.{operationBytes, operationsBytes, viewBytes, eventBytes, eventsBytes, fileBody, encode}
 
--- a number in front of something
-pub length-number-append : (n v : ℕ) (b : List ℕ) → length (leBytes n v ++ b) ≡ n + length b
-length-number-append n v b = length-append (leBytes n v) b ∙ ap (λ k. k + length b) (length-leBytes n v)
-
 pub length-operationBytes : (o : Operation) → length (operationBytes o) ≡ 8
 unfolding operationBytes
-length-operationBytes o = simp (length-number-append, length-leBytes)
+length-operationBytes o = simp (length-leBytes-append, length-leBytes)
 
 pub length-operationsBytes : (os : List Operation) → length (operationsBytes os) ≡ 8 * length os
 unfolding operationsBytes
@@ -37,8 +33,8 @@ eventLength keys (commit c) = commitLength keys (length (c .operations))
 
 pub length-eventBytes : (keys : ℕ) (e : Event) → length (eventBytes keys e) ≡ eventLength keys e
 unfolding eventBytes
-length-eventBytes keys (shift d u) = simp (length-number-append, length-viewBytes) (omega arith)
-length-eventBytes keys (commit c) = simp (length-number-append, length-append, length-operationsBytes, length-viewBytes) (omega arith)
+length-eventBytes keys (shift d u) = simp (length-leBytes-append, length-viewBytes) (omega arith)
+length-eventBytes keys (commit c) = simp (length-leBytes-append, length-append, length-operationsBytes, length-viewBytes) (omega arith)
 
 -- the length of records in turn
 unfoldable pub eventsLength : ℕ → List Event → ℕ
@@ -53,8 +49,8 @@ length-eventsBytes keys (e ∷ es) = length-append (eventBytes keys e) (eventsBy
 -- four bytes of length, a header of eight, and the records
 pub length-fileBody : (t : Trace) → length (fileBody t) ≡ 8 + eventsLength (t .keys) (t .events)
 unfolding fileBody
-length-fileBody t = simp (length-number-append, length-eventsBytes) (omega arith)
+length-fileBody t = simp (length-leBytes-append, length-eventsBytes) (omega arith)
 
 pub length-encode : (t : Trace) → length (encode t) ≡ 12 + eventsLength (t .keys) (t .events)
 unfolding encode
-length-encode t = simp (length-number-append, length-fileBody) (omega arith)
+length-encode t = simp (length-leBytes-append, length-fileBody) (omega arith)
