@@ -2,7 +2,7 @@
 -- that the opening store has the opening history. With these the store meets the hypotheses of dependencies. Assumes nothing.
 use Prim.Native.Nat.{ℕ, _≤_, _<_}
 use native.Mathlib.Omega.{arith}
-use mathlib.Core.Path.{_≡_, refl, sym, ap, _∙_, subst}
+use mathlib.Core.Path.{_≡_, refl, sym, _∙_, subst}
 use mathlib.Core.Logic.{_⊎_, inl, inr}
 use lib.Dec.{T, ltb}
 use Rattle.sets.specs.Set.{has}
@@ -12,7 +12,7 @@ use Rattle.dependencies.proofs.Opening.{Opening}
 use Rattle.store.specs.Store.{Key, Version, View, Store, Configuration, openingStore, opening, count, nextNumber, Commit}
 use Rattle.store.specs.Update.{reads, writes, newest, update, viewBefore, storeAfter}
 use Rattle.store.proofs.Updated.{at-same, at-other, Wrote, Read, wrote-update, read-update}
-use Rattle.store.proofs.Sound.{IsView, Sound, FitsCommit, LegalCommit, opening-first, sound-opening}
+use Rattle.store.proofs.Sound.{Sound, FitsCommit, LegalCommit, opening-first, sound-opening}
 use Rattle.store.proofs.Links.{history, held, reads-written, appears-stored, stored-below}
 
 -- "At the start each list is version 0: value 0, writer the opening transaction (number 0), no readers"
@@ -25,7 +25,7 @@ opening-history keys = record {
       let few : count (openingStore keys) k ≤ 1 = h .few k in
       let i-lt : i < count (openingStore keys) k = w .0 in
       (omega arith, omega arith);
-  no-readers = λ a k i r. has-none a (subst (λ (v : Version). T (has (v .readers) a)) (opening-first (ltb k keys) i (r .0) .1) (r .1))
+  no-readers = λ a k i r. has-none a (subst (λ (v : Version). T (has (v .readers) a)) (opening-first (ltb k keys) i (r .0) .1) (r .1));
 }
 
 -- the new commit stands in the table with its client
@@ -60,7 +60,8 @@ module _ (g : Configuration) (c : Commit) (h : Sound g) (f : FitsCommit (g .stor
     reads-written = reads-written s;
     view-written = λ k i x. (_, (h .views (c .client) .exist k i x, refl));
     atomic = λ a (k, i, x, w) k′ i′ w′. h .views (c .client) .whole a k i k′ i′ x w w′;
-    session-grows = λ a (st, p, e). rw (at-same (nextNumber s) (c .session) (s .sessionOf)) (l .newer a (appears-stored s a .1 st) p (e ∙ new-client g c))
+    session-grows = λ a (st, p, e).
+        rw (at-same (nextNumber s) (c .session) (s .sessionOf)) (l .newer a (appears-stored s a .1 st) p (e ∙ new-client g c));
   }
     where
       own-write : (a k i : ℕ) → Wrote s a k i ⊎ ((a ≡ nextNumber s) × T (writes c k) × (i ≡ count s k))

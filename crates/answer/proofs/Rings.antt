@@ -3,7 +3,7 @@
 -- read; under serialisability without closed walks of any links. Assumes nothing.
 use Prim.Native.Nat.{ℕ}
 use native.Mathlib.Decide.{ℕ-discrete}
-use mathlib.Core.Path.{_≡_, refl, sym, ap, _∙_, subst}
+use mathlib.Core.Path.{_≡_, sym, ap, _∙_, subst}
 use mathlib.Core.List.{List}
 use lib.Dec.{T}
 use Rattle.relations.specs.Walk.{Ring, sideBySideInRing}
@@ -16,8 +16,8 @@ use Rattle.dependencies.proofs.Owned.{Owned, Grow, owned-opening, owned-shift, 
 use Rattle.dependencies.proofs.Acyclic.{snapshot-stays-acyclic, dependencies-stay-acyclic}
 use Rattle.dependencies.proofs.Rings.{LinkThat, rings-have-RW-side-by-side, no-rings}
 use Rattle.store.specs.Store.{Key, Client, CommitNumber, View, Configuration, opening, nextNumber, Commit, shift, commit}
-use Rattle.store.specs.Update.{writes, atNumber, update, viewBefore, storeAfter, step, final}
-use Rattle.store.specs.Links.{LinkKind, linked, isRW}
+use Rattle.store.specs.Update.{writes, atNumber, viewBefore, storeAfter, step, final}
+use Rattle.store.specs.Links.{LinkKind, isRW}
 use Rattle.store.proofs.Updated.{at-same, at-other}
 use Rattle.store.proofs.Sound.{Sound, FitsCommit, LegalShift, LegalCommit, sound-opening}
 use Rattle.store.proofs.Links.{history, held, link-means}
@@ -61,7 +61,7 @@ snapshot-shift : (g : Configuration) (d : Client) (u : View) → LegalShift g d 
 unfolding step
 snapshot-shift g d u l i = record {
   owned = owned-shift (history (g .store)) (views-of g) (λ e. held (atNumber d u (g .views) e)) (views-grow (g .views) d u (l .grows)) (i .owned);
-  acyclic = i .acyclic
+  acyclic = i .acyclic;
 }
 
 dependency-shift : (g : Configuration) (d : Client) (u : View) → Acyclic (D.Dependency (history (g .store)))
@@ -94,7 +94,7 @@ module _ (g : Configuration) (c : Commit) (h : Sound g) (f : FitsCommit (g .stor
         (λ d. held (atNumber (c .client) (c .viewAfter) (g .views) d)) (views-grow (g .views) (c .client) (c .viewAfter) mr)
         (λ k j w. subst (λ (v : View). held v k j) (sym (at-same (c .client) (c .viewAfter) (g .views))) (ryw k j w));
     acyclic = snapshot-stays-acyclic H H′ (held (viewBefore g c)) t Writes grown ua si
-        (owned-owns H H′ (views-of g) t (c .client) (new-client g c) (i .owned)) (i .acyclic)
+        (owned-owns H H′ (views-of g) t (c .client) (new-client g c) (i .owned)) (i .acyclic);
   }
 
   -- serialisability
@@ -111,12 +111,12 @@ module _ (t : Trace) (h : Taken t) where
   snapshot-graph : Accepts SI t → SnapshotGraph (final (opening (t .keys)) (t .events))
   snapshot-graph accepts =
       run-keeps (Passes SI) SnapshotGraph (λ g d u _. snapshot-shift g d u) snapshot-commit
-        (sound-opening (t .keys)) (h .legal) (accepts-each t h SI .0 accepts) (snapshot-opening (t .keys))
+      (sound-opening (t .keys)) (h .legal) (accepts-each t h SI .0 accepts) (snapshot-opening (t .keys))
 
   dependencies-acyclic : Accepts SER t → Acyclic (D.Dependency (history (finalStore t)))
   dependencies-acyclic accepts =
       run-keeps (Passes SER) (λ g. Acyclic (D.Dependency (history (g .store)))) (λ g d u _ _. dependency-shift g d u) dependency-commit
-        (sound-opening (t .keys)) (h .legal) (accepts-each t h SER .0 accepts) (opening-acyclic _ (opening-history (t .keys)))
+      (sound-opening (t .keys)) (h .legal) (accepts-each t h SER .0 accepts) (opening-acyclic _ (opening-history (t .keys)))
 
   -- "If snapshot isolation passes, every ring of dependencies in the store has two read-to-overwrite links side by side."
   pub si-rings : Accepts SI t → (kind : LinkKind) (kinds : List LinkKind) (a : CommitNumber)
