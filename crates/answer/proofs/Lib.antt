@@ -1,1 +1,5 @@
 pub mod Bench
+pub mod Taken
+pub mod Orders
+pub mod Graph
+pub mod Rings
