@@ -1,0 +1,102 @@
+-- What the arrays of the judge say of a configuration. Sets of commits are words: number t is in the set where bit t is set; the
+-- opening transaction is number 0 and is in the sets like any other. Assumes nothing.
+use Prim.Native.Nat.{ℕ, zero, suc, _+_, _*_, _^_, _≤_, _<_}
+use mathlib.Core.Path.{_≡_}
+use mathlib.Core.Logic.{_⊎_, _↔_}
+use mathlib.Core.List.{List}
+use lib.Dec.{T}
+use lib.ListN.{length, getD}
+use Rattle.sets.specs.Set.{Set, has, below}
+use Rattle.relations.specs.Relation.{ThenMaybe}
+use Rattle.dependencies.specs.History.{Stored, Holds, PrefixStep, SnapshotStep}
+use Rattle.dependencies.specs.History as D
+use Rattle.store.specs.Limits.{maxKeys, maxClients}
+use Rattle.store.specs.Store.{Key, CommitNumber, Client, SessionNumber, View, Store, Configuration, count, version, nextNumber}
+use Rattle.store.proofs.Updated.{Wrote, Read}
+use Rattle.store.proofs.Links.{history, held}
+use Rattle.state.specs.Places.{perKey, numbers, headPlace, readersPlace, fullPlace, writersPlace, viewPlace, commitsPlace, drawnPlace, barPlace, logPlace, beforePlace, readPlace, linkPlace, leadPlace, packed}
+
+-- a word is the set of the numbers with P
+abbrev pub IsSet : Set → (ℕ → Type 0) → Type 0
+IsSet m P = (t : ℕ) → T (has m t) ↔ P t
+
+-- ---- versions and keys
+
+pub record KeepsVersions (s : Store) (versions : List ℕ) : Type 0 where
+  pub room : length versions ≡ 2 * (perKey * maxKeys)
+  pub heads : (k i : ℕ) → i < count s k → getD versions (headPlace k i) 0 ≡ packed (version s k i .value) (version s k i .writer)
+  pub readers : (k i : ℕ) → i < count s k → getD versions (readersPlace k i) 0 ≡ version s k i .readers
+  pub value-fits : (k i : ℕ) → i < count s k → version s k i .value < 2 ^ 32
+
+-- a commit that wrote a version of the key; one that read a version of it
+abbrev pub WroteKey : Store → Key → CommitNumber → Type 0
+WroteKey s k t = (i : ℕ) × Wrote s t k i
+
+abbrev pub ReadKey : Store → Key → CommitNumber → Type 0
+ReadKey s k t = (i : ℕ) × Read s t k i
+
+pub record KeepsKeys (s : Store) (keys : List ℕ) : Type 0 where
+  pub room : length keys ≡ 2 * maxKeys
+  pub full : (k : Key) → k < s .keys → getD keys (fullPlace k) 0 ≡ below (count s k)
+  pub writers : (k : Key) → k < s .keys → IsSet (getD keys (writersPlace k) 0) (WroteKey s k)
+
+-- ---- views
+
+-- the row of a client
+abbrev pub RowIs : ℕ → List ℕ → Client → View → Type 0
+RowIs keys views d u = (k : Key) → k < keys → getD views (viewPlace d k) 0 ≡ u k
+
+pub record KeepsViews (g : Configuration) (views seen : List ℕ) : Type 0 where
+  pub room : length views ≡ maxClients * maxKeys
+  pub rows : (d : Client) → d < maxClients → RowIs (g .store .keys) views d (g .views d)
+  -- the commits of which the client's view holds a version
+  pub seen-room : length seen ≡ maxClients
+  pub holds : (d : Client) → d < maxClients → IsSet (getD seen d 0) (Holds (history (g .store)) (held (g .views d)))
+
+-- ---- sessions and commits
+
+-- a commit of the client in the store
+abbrev pub CommitOf : Store → Client → CommitNumber → Type 0
+CommitOf s d t = Stored (history s) t × (0 < t) × (s .clientOf t ≡ d)
+
+pub record KeepsSessions (s : Store) (sessions : List ℕ) : Type 0 where
+  pub room : length sessions ≡ 3 * maxClients
+  pub commits-of : (d : Client) → d < maxClients → IsSet (getD sessions (commitsPlace d) 0) (CommitOf s d)
+  pub drawn : (d : Client) → d < maxClients → IsSet (getD sessions (drawnPlace d) 0) (λ w. (t : ℕ) × CommitOf s d t × D.WR (history s) w t)
+  -- a session number is below the bar exactly where it is not above every number of the client
+  pub bar : (d : Client) → d < maxClients → (x : SessionNumber) → (x < getD sessions (barPlace d) 0) ↔ ((t : ℕ) × CommitOf s d t × (x ≤ s .sessionOf t))
+
+pub record KeepsCommits (s : Store) (commits : List ℕ) : Type 0 where
+  pub room : length commits ≡ 3 * numbers
+  pub log : (t : CommitNumber) → 0 < t → t ≤ s .commits → getD commits (logPlace t) 0 ≡ packed (s .clientOf t) (s .sessionOf t)
+  pub before : (t : CommitNumber) → t < numbers → IsSet (getD commits (beforePlace t) 0) (λ a. D.SO (history s) a t)
+  -- the writers of what the commit read, or a commit before it in SO read
+  pub read : (t : CommitNumber) → t < numbers
+      → IsSet (getD commits (readPlace t) 0) (λ w. D.WR (history s) w t ⊎ ((a : ℕ) × D.SO (history s) a t × D.WR (history s) w a))
+
+-- ---- links, for clauses 6 and 7
+
+-- the link that starts a step, before an RW link: SO or WR for clause 6, SO, WR or WW for clause 7
+abbrev pub FirstLink : ℕ → Store → CommitNumber → CommitNumber → Type 0
+FirstLink zero s a b = D.SO (history s) a b ⊎ D.WR (history s) a b
+FirstLink (suc n) s a b = D.PlainLink (history s) a b
+
+abbrev pub Step : ℕ → Store → CommitNumber → CommitNumber → Type 0
+Step zero s = PrefixStep (history s)
+Step (suc n) s = SnapshotStep (history s)
+
+pub record KeepsLinks (s : Store) (links : List ℕ) : Type 0 where
+  pub room : length links ≡ 2 * numbers + 2 * maxKeys
+  pub steps : (kind : ℕ) → kind < 2 → (t : CommitNumber) → t < numbers → IsSet (getD links (linkPlace kind t) 0) (λ a. Step kind s a t)
+  pub leads : (kind : ℕ) → kind < 2 → (k : Key) → k < s .keys
+      → IsSet (getD links (leadPlace kind k) 0) (λ a. (r : ℕ) × ReadKey s k r × FirstLink kind s a r)
+
+-- ---- all of them
+
+pub record Keeps (g : Configuration) (versions keys views seen sessions commits links : List ℕ) : Type 0 where
+  pub in-versions : KeepsVersions (g .store) versions
+  pub in-keys : KeepsKeys (g .store) keys
+  pub in-views : KeepsViews g views seen
+  pub in-sessions : KeepsSessions (g .store) sessions
+  pub in-commits : KeepsCommits (g .store) commits
+  pub in-links : KeepsLinks (g .store) links

@@ -1,0 +1,61 @@
+-- Where things stand in the arrays of the judge. An array holds several tables of equal rows, one after the other. Assumes nothing.
+use Prim.Native.Nat.{ℕ, _+_, _*_, _^_}
+use Rattle.store.specs.Limits.{maxKeys, maxClients}
+use Rattle.store.specs.Store.{Key, VersionNumber, CommitNumber, Client}
+
+-- a key can have 64 versions: the opening one, and one by each of 63 commits
+abbrev pub perKey : ℕ
+perKey = 64
+
+-- commit numbers are below 64
+abbrev pub numbers : ℕ
+numbers = 64
+
+-- versions: the heads, then the readers
+abbrev pub headPlace : Key → VersionNumber → ℕ
+headPlace k i = perKey * k + i
+
+abbrev pub readersPlace : Key → VersionNumber → ℕ
+readersPlace k i = perKey * maxKeys + headPlace k i
+
+-- keys: the full masks, then the sets of writers
+abbrev pub fullPlace : Key → ℕ
+fullPlace k = k
+
+abbrev pub writersPlace : Key → ℕ
+writersPlace k = maxKeys + k
+
+-- views: a row for each client
+abbrev pub viewPlace : Client → Key → ℕ
+viewPlace d k = maxKeys * d + k
+
+-- sessions: the commits of each client, the writers that they read from, and the least session number that is free
+abbrev pub commitsPlace : Client → ℕ
+commitsPlace d = d
+
+abbrev pub drawnPlace : Client → ℕ
+drawnPlace d = maxClients + d
+
+abbrev pub barPlace : Client → ℕ
+barPlace d = 2 * maxClients + d
+
+-- commits: the log, the commits before each in SO, and the writers that each and those read from
+abbrev pub logPlace : CommitNumber → ℕ
+logPlace t = t
+
+abbrev pub beforePlace : CommitNumber → ℕ
+beforePlace t = numbers + t
+
+abbrev pub readPlace : CommitNumber → ℕ
+readPlace t = 2 * numbers + t
+
+-- links: for clause 6 and then for clause 7, the commits with a link to each; then for each key what its readers bring along
+abbrev pub linkPlace : ℕ → CommitNumber → ℕ
+linkPlace kind t = numbers * kind + t
+
+abbrev pub leadPlace : ℕ → Key → ℕ
+leadPlace kind k = 2 * numbers + (maxKeys * kind + k)
+
+-- two numbers in one word: the low half, and the high half
+abbrev pub packed : ℕ → ℕ → ℕ
+packed low high = low + 2 ^ 32 * high
