@@ -1,0 +1,233 @@
+-- The file of a well-formed trace reads back as that trace. One lemma for each definition of the format; each reads what stands at
+-- a place of a file. Assumes nothing.
+use Prim.Native.Nat.{ℕ, suc, _+_, _*_, _^_, _≤_, _<_}
+use mathlib.Core.Path.{_≡_, refl, sym, ap, ap₂, _∙_, subst, fun-ext}
+use mathlib.Core.List.{List, [], _∷_}
+use native.Mathlib.Omega.{arith}
+use native.Mathlib.Decide.{decLt}
+use lib.Dec.{T, ltb, lit<, lt→ltb}
+use lib.Arith.{le→nltb}
+use lib.ListN.{length}
+use mathlib.Core.Logic.{_≢_}
+use mir.Facts.{yes-and, yes-eqb, yes-leb, yes-ltb, no-eqb}
+use Rattle.search.proofs.Choose.{choose-yes, choose-no, need-yes}
+use Rattle.endian.specs.Endian.{leAt, leBytes}
+use Rattle.endian.proofs.Laws.{length-leBytes}
+use Rattle.endian.proofs.Stands.{Stands, stands-whole, stands-at, stands-within, stands-first, stands-second, stands-behind, stands-piece, read-fitting, read-first}
+use Rattle.store.specs.Limits.{maxKeys, maxClients, maxCommits, minBytes, maxBytes}
+use Rattle.store.specs.Store.{Client, View, Access, read, write, Operation, Commit, Event, shift, commit}
+use Rattle.store.proofs.Sound.{FitsView}
+use Rattle.store.proofs.Run.{commitsIn}
+use Rattle.trace.specs.Result.{Result, taken, onTaken}
+use Rattle.trace.specs.Format.{Header, Trace, viewAt, accessOf, operationAt, operationsAt, rankAt, operationFits, operationsFit, whole, shiftLength, shiftAt, commitLength, commitOf, commitAt, recordAt, commitsWith, onRecord, eventsFrom, headerAt, withinLimits, decode}
+use Rattle.trace.specs.Encode.{accessNumber, operationBytes, operationsBytes, viewBytes, eventBytes, eventsBytes, fileBody, encode}
+use Rattle.trace.proofs.Sizes.{length-operationBytes, length-operationsBytes, eventLength, length-eventBytes, eventsLength, length-fileBody, length-encode}
+use Rattle.trace.proofs.Tests.{operationFits-is, withinLimits-is}
+use Rattle.trace.proofs.WellFormed.{rank, FitsOperation, Rise, accessNumber-le-one, rising-length, FitsShift, FitsCommit, FitsEvent, FitsEvents, commitsWith-commitsIn, WellFormed}
+
+-- the header of a trace
+abbrev headerOf : Trace → Header
+headerOf t = record { keys = t .keys; clients = t .clients; records = length (t .events) }
+
+-- ---- views and operations
+
+accessOf-accessNumber : (a : Access) → accessOf (accessNumber a) ≡ a
+unfolding accessOf
+accessOf-accessNumber read = refl
+accessOf-accessNumber write = refl
+
+module _ (s : List ℕ) where
+  -- the masks of a view
+  view-back : (at keys : ℕ) (u : View) → FitsView keys u → Stands s at (viewBytes keys u) → viewAt s at keys ≡ u
+  unfolding viewAt viewBytes
+  view-back at keys u fits h = fun-ext (λ k. at-key k (decLt k keys))
+    where
+      at-key : (k : ℕ) → Dec (k < keys) → viewAt s at keys k ≡ u k
+      at-key k (yes below) =
+          choose-yes (ltb k keys) (leAt s (at + 8 * k) 8) 0 (lt→ltb _ _ below)
+          ∙ read-fitting 8 (u k) (fits .word k) (stands-piece keys 8 k (λ j. leBytes 8 (u j)) (λ j. length-leBytes 8 (u j)) below h)
+      at-key k (no beyond) =
+          choose-no (ltb k keys) (leAt s (at + 8 * k) 8) 0 (le→nltb k keys (omega arith)) ∙ sym (fits .beyond k (omega arith))
+
+  -- the four numbers of an operation
+  operation-numbers : (at : ℕ) (o : Operation) → o .key < 256 → o .value < 2 ^ 32 → Stands s at (operationBytes o)
+      → (leAt s at 1 ≡ accessNumber (o .access)) × (leAt s (at + 1) 1 ≡ o .key) × (leAt s (at + 2) 2 ≡ 0) × (leAt s (at + 4) 4 ≡ o .value)
+  unfolding operationBytes
+  operation-numbers at o key value h =
+      let kind = accessNumber-le-one (o .access) in
+      let from-key = stands-behind 1 _ _ (at + 1) refl h in
+      let from-zeros = stands-behind 1 _ _ (at + 2) (omega arith) from-key in
+      let from-value = stands-behind 2 _ _ (at + 4) (omega arith) from-zeros in
+      (read-first 1 _ _ (omega arith) h, read-first 1 _ _ key from-key, read-first 2 _ _ (lit< tt) from-zeros, read-fitting 4 _ value from-value)
+
+  -- an operation, which passes its test
+  operation-back : (at keys low : ℕ) (o : Operation) → keys ≤ maxKeys → FitsOperation keys low o → Stands s at (operationBytes o)
+      → (operationAt s at ≡ o) × (rankAt s at ≡ rank o) × T (operationFits s at keys low)
+  operation-back at keys low o few fits h =
+      let (access, key, zeros, value) = operation-numbers at o (omega arith) (fits .value-fits) h in
+      let kind = accessNumber-le-one (o .access) in (
+        λ i. record { access = (ap accessOf access ∙ accessOf-accessNumber (o .access)) i; key = key i; value = value i },
+        omega arith,
+        operationFits-is s at keys low .1 (omega arith, omega arith, zeros, omega arith),
+      )
+
+  -- all operations
+  operations-back : (os : List Operation) (at keys low : ℕ) → keys ≤ maxKeys → Rise keys low os → Stands s at (operationsBytes os)
+      → (operationsAt s at (length os) ≡ os) × T (operationsFit s at keys low (length os))
+  unfolding operationsBytes operationsAt operationsFit
+  operations-back [] at keys low few rise h = (refl, tt)
+  operations-back (o ∷ os) at keys low few rise h =
+      let behind = stands-at (ap (λ k. at + k) (length-operationBytes o)) (stands-second (operationBytes o) (operationsBytes os) h) in
+      let (same, same-rank, fits) = operation-back at keys low o few (rise .0) (stands-first (operationBytes o) (operationsBytes os) h) in
+      let (others, others-fit) = operations-back os (at + 8) keys (suc (rank o)) few (rise .1) behind in
+      (ap₂ _∷_ same others, yes-and (operationFits s at keys low) (operationsFit s (at + 8) keys (suc (rankAt s at)) (length os)) fits (rw same-rank others-fit))
+
+  -- ---- one record
+
+  -- a record of kind 2
+  shift-back : (h : Header) (at : ℕ) (d : Client) (u : View) → h .keys ≤ maxKeys → h .clients ≤ maxClients → FitsShift (h .keys) (h .clients) d u
+      → Stands s at (eventBytes (h .keys) (shift d u)) → recordAt s h at ≡ whole (shift d u) (at + shiftLength (h .keys))
+  unfolding eventBytes recordAt shiftAt
+  shift-back h at d u few-keys few-clients fits stands =
+      let within = stands-within stands in
+      let size-of = length-eventBytes (h .keys) (shift d u) in
+      let from-kind = stands-behind 2 _ _ (at + 2) refl stands in
+      let from-client = stands-behind 2 _ _ (at + 4) (omega arith) from-kind in
+      let from-spare = stands-behind 1 _ _ (at + 5) (omega arith) from-client in
+      let from-view = stands-behind 1 _ _ (at + 6) (omega arith) from-spare in
+      let size = read-first 2 _ _ (omega arith) stands in
+      let kind = read-first 2 _ _ (lit< tt) from-kind in
+      let client = read-first 1 _ _ (omega arith) from-client in
+      let spare = read-first 1 _ _ (lit< tt) from-spare in
+      let view = view-back (at + 6) (h .keys) u (fits .view-fits) from-view in
+      let four : at + 4 ≤ length s = omega arith in
+      let ends : at + shiftLength (h .keys) ≤ length s = omega arith in
+      let below : leAt s (at + 4) 1 < h .clients = omega arith in
+      need-yes _ _ _ (yes-leb four)
+      ∙ choose-yes _ _ _ (yes-eqb kind)
+      ∙ need-yes _ _ _ (yes-eqb size)
+      ∙ need-yes _ _ _ (yes-leb ends)
+      ∙ need-yes _ _ _ (yes-ltb below)
+      ∙ need-yes _ _ _ (yes-eqb spare)
+      ∙ ap₂ (λ e v. whole (shift e v) (at + shiftLength (h .keys))) client view
+
+  -- a record of kind 3
+  commit-back : (h : Header) (at : ℕ) (c : Commit) → h .keys ≤ maxKeys → h .clients ≤ maxClients → FitsCommit (h .keys) (h .clients) c
+      → Stands s at (eventBytes (h .keys) (commit c)) → recordAt s h at ≡ whole (commit c) (at + commitLength (h .keys) (length (c .operations)))
+  unfolding eventBytes recordAt commitAt commitOf
+  commit-back h at c few-keys few-clients fits stands =
+      let m = length (c .operations) in
+      let few = rising-length (h .keys) (c .operations) (fits .rising) in
+      let within = stands-within stands in
+      let size-of = length-eventBytes (h .keys) (commit c) in
+      let from-kind = stands-behind 2 _ _ (at + 2) refl stands in
+      let from-client = stands-behind 2 _ _ (at + 4) (omega arith) from-kind in
+      let from-count = stands-behind 1 _ _ (at + 5) (omega arith) from-client in
+      let from-session = stands-behind 1 _ _ (at + 6) (omega arith) from-count in
+      let from-operations = stands-behind 4 _ _ (at + 10) (omega arith) from-session in
+      let view-place : at + 10 + length (operationsBytes (c .operations)) ≡ at + (10 + 8 * m) = omega (arith, length-operationsBytes (c .operations)) in
+      let from-view = stands-at view-place (stands-second (operationsBytes (c .operations)) (viewBytes (h .keys) (c .viewAfter)) from-operations) in
+      let size = read-first 2 _ _ (omega arith) stands in
+      let kind : leAt s (at + 2) 2 ≡ 3 = read-first 2 _ _ (lit< tt) from-kind in
+      let client = read-first 1 _ _ (omega arith) from-client in
+      let count : leAt s (at + 5) 1 ≡ m = read-first 1 _ _ (omega arith) from-count in
+      let session = read-first 4 _ _ (fits .session-fits) from-session in
+      let (operations, fit) = operations-back (c .operations) (at + 10) (h .keys) 0 few-keys (fits .rising) (stands-first _ _ from-operations) in
+      let view = view-back (at + (10 + 8 * m)) (h .keys) (c .viewAfter) (fits .view-fits) from-view in
+      let four : at + 4 ≤ length s = omega arith in
+      let five : at + 5 < length s = omega arith in
+      let ends : at + commitLength (h .keys) m ≤ length s = omega arith in
+      let below : leAt s (at + 4) 1 < h .clients = omega arith in
+      let not-two : leAt s (at + 2) 2 ≢ 2 = omega arith in
+      need-yes _ _ _ (yes-leb four)
+      ∙ choose-no _ _ _ (no-eqb not-two)
+      ∙ choose-yes _ _ _ (yes-eqb kind)
+      ∙ need-yes _ _ _ (yes-ltb five)
+      ∙ ap (λ j. commitOf s h at j) count
+      ∙ need-yes _ _ _ (yes-eqb size)
+      ∙ need-yes _ _ _ (yes-leb ends)
+      ∙ need-yes _ _ _ (yes-ltb below)
+      ∙ need-yes _ _ _ fit
+      ∙ (λ i. whole (commit (record { client = client i; session = session i; operations = operations i; viewAfter = view i })) (at + commitLength (h .keys) m))
+
+  -- a record of either kind, and where the next one starts
+  event-back : (h : Header) (at : ℕ) (e : Event) → h .keys ≤ maxKeys → h .clients ≤ maxClients → FitsEvent (h .keys) (h .clients) e
+      → Stands s at (eventBytes (h .keys) e) → recordAt s h at ≡ whole e (at + eventLength (h .keys) e)
+  event-back h at (shift d u) few-keys few-clients fits stands = shift-back h at d u few-keys few-clients fits stands
+  event-back h at (commit c) few-keys few-clients fits stands = commit-back h at c few-keys few-clients fits stands
+
+  -- ---- all records
+
+  -- the records up to the end of the file
+  events-back : (h : Header) (es : List Event) (at n commits : ℕ) → h .keys ≤ maxKeys → h .clients ≤ maxClients → FitsEvents (h .keys) (h .clients) es
+      → commits + commitsIn es ≤ maxCommits → at + eventsLength (h .keys) es ≡ length s → Stands s at (eventsBytes (h .keys) es)
+      → eventsFrom s h (length es) at n commits ≡ taken es
+  unfolding eventsFrom eventsBytes eventsLength onRecord onTaken
+  events-back h [] at n commits few-keys few-clients fits few ends stands =
+      let done : at ≡ length s = omega arith in
+      need-yes _ _ _ (yes-eqb done)
+  events-back h (e ∷ es) at n commits few-keys few-clients fits few ends stands =
+      let size = eventLength (h .keys) e in
+      let total = commitsWith-commitsIn e es commits in
+      let count : commitsWith e commits ≤ maxCommits = omega arith in
+      let behind = stands-at (ap (λ k. at + k) (length-eventBytes (h .keys) e)) (stands-second (eventBytes (h .keys) e) (eventsBytes (h .keys) es) stands) in
+      let first = event-back h at e few-keys few-clients (fits .0) (stands-first (eventBytes (h .keys) e) (eventsBytes (h .keys) es) stands) in
+      let others = events-back h es (at + size) (suc n) (commitsWith e commits) few-keys few-clients (fits .1) (omega arith) (omega arith) behind in
+      let go-on : Event → ℕ → ℕ → Result (List Event) = λ e next c. onTaken (eventsFrom s h (length es) next (suc n) c) (λ rest. taken (e ∷ rest)) in
+      ap (λ r. onRecord r n commits go-on) first
+      ∙ need-yes _ _ _ (yes-leb count)
+      ∙ ap (λ r. onTaken r (λ rest. taken (e ∷ rest))) others
+
+  -- ---- the file
+
+  -- what the first twelve bytes say, and that the records stand behind them
+  header-back : (t : Trace) → WellFormed t → Stands s 0 (encode t)
+      → (leAt s 0 4 ≡ length (encode t)) × (leAt s 4 2 ≡ 8) × (leAt s 6 2 ≡ 1) × (headerAt s ≡ headerOf t) × Stands s minBytes (eventsBytes (t .keys) (t .events))
+  unfolding encode fileBody
+  header-back t w stands =
+      let size = length-encode t in
+      let body-size = length-fileBody t in
+      let from-header = stands-behind 4 _ _ 4 refl stands in
+      let from-kind = stands-behind 2 _ _ 6 refl from-header in
+      let from-keys = stands-behind 2 _ _ 8 refl from-kind in
+      let from-clients = stands-behind 1 _ _ 9 refl from-keys in
+      let from-count = stands-behind 1 _ _ 10 refl from-clients in
+      let keys = read-first 1 _ _ (omega arith) from-keys in
+      let clients = read-first 1 _ _ (omega arith) from-clients in
+      let records = read-first 2 _ _ (w .few-records) from-count in (
+        read-first 4 _ _ (omega arith) stands ∙ omega arith,
+        read-first 2 _ _ (lit< tt) from-header,
+        read-first 2 _ _ (lit< tt) from-kind,
+        λ i. record { keys = keys i; clients = clients i; records = records i },
+        stands-behind 2 _ _ 12 refl from-count,
+      )
+
+  -- the trace that a header and events make
+  trace-back : (t : Trace) → headerAt s ≡ headerOf t → eventsFrom s (headerOf t) (length (t .events)) minBytes 1 0 ≡ taken (t .events)
+      → onTaken (eventsFrom s (headerAt s) (headerAt s .records) minBytes 1 0) (λ es. taken (record { keys = headerAt s .keys; clients = headerAt s .clients; events = es })) ≡ taken t
+  unfolding onTaken
+  trace-back t header events =
+      (λ i. onTaken (eventsFrom s (header i) (header i .records) minBytes 1 0) (λ es. taken (record { keys = header i .keys; clients = header i .clients; events = es })))
+      ∙ ap (λ r. onTaken r (λ es. taken (record { keys = t .keys; clients = t .clients; events = es }))) events
+
+  -- a file that is nothing but the file of the trace
+  file-back : (t : Trace) → WellFormed t → length s ≡ length (encode t) → Stands s 0 (encode t) → decode s ≡ taken t
+  unfolding decode
+  file-back t w same stands =
+      let size = length-encode t in
+      let (field, header-size, kind, header, from-events) = header-back t w stands in
+      let least : minBytes ≤ length s = omega arith in
+      let most : length s ≤ maxBytes = omega arith in
+      let limits = withinLimits-is (headerOf t) .1 (w .some-key, w .few-keys, w .some-client, w .few-clients) in
+      let events = events-back (headerOf t) (t .events) minBytes 1 0 (w .few-keys) (w .few-clients) (w .fitting) (omega arith) (omega arith) from-events in
+      need-yes _ _ _ (yes-leb least)
+      ∙ need-yes _ _ _ (yes-leb most)
+      ∙ need-yes _ _ _ (yes-eqb (field ∙ sym same))
+      ∙ need-yes _ _ _ (yes-eqb header-size)
+      ∙ need-yes _ _ _ (yes-eqb kind)
+      ∙ need-yes _ _ _ (subst (λ h. T (withinLimits h)) (sym header) limits)
+      ∙ trace-back t header events
+
+-- the file of a well-formed trace reads back as that trace
+pub decode-encode : (t : Trace) → WellFormed t → decode (encode t) ≡ taken t
+decode-encode t w = file-back (encode t) t w refl (stands-whole (encode t))

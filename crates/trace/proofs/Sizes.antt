@@ -1,0 +1,56 @@
+-- How long the file of a trace is, record by record. Assumes nothing.
+use Prim.Native.Nat.{ℕ, _+_, _*_}
+use mathlib.Core.Path.{_≡_, refl, ap₂, _∙_}
+use mathlib.Core.List.{List, [], _∷_}
+use native.Mathlib.Omega.{arith}
+use lib.ListN.{length, length-append}
+use Rattle.endian.specs.Endian.{leBytes}
+use Rattle.endian.proofs.Laws.{length-leBytes, length-leBytes-append, length-pieces}
+use Rattle.store.specs.Store.{View, Operation, Event, shift, commit}
+use Rattle.trace.specs.Format.{Trace, shiftLength, commitLength}
+use Rattle.trace.specs.Encode.{operationBytes, operationsBytes, viewBytes, eventBytes, eventsBytes, fileBody, encode}
+
+pub length-operationBytes : (o : Operation) → length (operationBytes o) ≡ 8
+unfolding operationBytes
+length-operationBytes o = simp (length-leBytes-append, length-leBytes)
+
+pub length-operationsBytes : (os : List Operation) → length (operationsBytes os) ≡ 8 * length os
+unfolding operationsBytes
+length-operationsBytes [] = refl
+length-operationsBytes (o ∷ os) =
+    let first = length-operationBytes o in
+    let rest = length-operationsBytes os in
+    length-append (operationBytes o) (operationsBytes os) ∙ omega arith
+
+pub length-viewBytes : (keys : ℕ) (u : View) → length (viewBytes keys u) ≡ 8 * keys
+unfolding viewBytes
+length-viewBytes keys u = length-pieces keys 8 (λ k. leBytes 8 (u k)) (λ k. length-leBytes 8 (u k))
+
+-- the length of a record: "6 + 8K", "10 + 8m + 8K"
+abbrev pub eventLength : ℕ → Event → ℕ
+eventLength keys (shift d u) = shiftLength keys
+eventLength keys (commit c) = commitLength keys (length (c .operations))
+
+pub length-eventBytes : (keys : ℕ) (e : Event) → length (eventBytes keys e) ≡ eventLength keys e
+unfolding eventBytes
+length-eventBytes keys (shift d u) = simp (length-leBytes-append, length-viewBytes) (omega arith)
+length-eventBytes keys (commit c) = simp (length-leBytes-append, length-append, length-operationsBytes, length-viewBytes) (omega arith)
+
+-- the length of records in turn
+unfoldable pub eventsLength : ℕ → List Event → ℕ
+eventsLength keys [] = 0
+eventsLength keys (e ∷ es) = eventLength keys e + eventsLength keys es
+
+pub length-eventsBytes : (keys : ℕ) (es : List Event) → length (eventsBytes keys es) ≡ eventsLength keys es
+unfolding eventsBytes eventsLength
+length-eventsBytes keys [] = refl
+length-eventsBytes keys (e ∷ es) = length-append (eventBytes keys e) (eventsBytes keys es) ∙ ap₂ _+_ (length-eventBytes keys e) (length-eventsBytes keys es)
+
+-- four bytes of length, a header of eight, and the records
+pub length-fileBody : (t : Trace) → length (fileBody t) ≡ 8 + eventsLength (t .keys) (t .events)
+unfolding fileBody
+length-fileBody t = simp (length-leBytes-append, length-eventsBytes) (omega arith)
+
+pub length-encode : (t : Trace) → length (encode t) ≡ 12 + eventsLength (t .keys) (t .events)
+unfolding encode
+length-encode t = simp (length-leBytes-append, length-fileBody) (omega arith)
