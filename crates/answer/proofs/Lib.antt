@@ -1,3 +1,4 @@
 pub mod Bench
 pub mod FullView
 pub mod Replayed
+pub mod ReplayFile
