@@ -19,7 +19,7 @@ use Rattle.trace.proofs.WellFormed.{FitsEvents, events-size, WellFormed}
 use Rattle.trace.proofs.RoundTrip.{decode-encode}
 use Rattle.levels.specs.Level.{Level, SER}
 use Rattle.levels.proofs.Levels.{Passes}
-use Rattle.answer.specs.Answer.{meaningless, unless, accept}
+use Rattle.answer.specs.Answer.{finalStore, meaningless, unless, accept}
 use Rattle.answer.specs.Replay.{replayed, replayEvents, replayTrace, replay}
 use Rattle.answer.specs.Demand3.{Accepts, SameOutcome}
 use Rattle.answer.proofs.Replayed.{Replays, replays, replay-commits}
@@ -72,3 +72,32 @@ module _ (t : Trace) (w : WellFormed t) (legal : LegalRun (opening (t .keys)) (t
         short = omega arith;
         fitting = fitting;
       }
+
+  pub replay-decoded : decode (replay t) ≡ taken (replayTrace t)
+  unfolding replay
+  replay-decoded = decode-encode (replayTrace t) replay-well-formed
+
+  -- no code is due for its meaning
+  pub replay-legal : LegalRun (opening (t .keys)) (replayTrace t .events)
+  unfolding replayTrace
+  replay-legal = replays-trace .legal
+
+  replay-meaningful : meaningless (replayTrace t) ≡ none
+  unfolding replayTrace opening openingStore
+  replay-meaningful = legal-run 1 (opening (t .keys)) (replayEvents (opening (t .keys)) (t .events)) (sound-opening (t .keys)) (replays-trace .fits) .1 replay-legal
+
+  -- the replay is taken
+  pub replay-taken : accept (replay t) ≡ taken (replayTrace t)
+  unfolding accept onTaken unless
+  replay-taken =
+      ap (λ (x : Result Trace). onTaken x (λ r. unless (meaningless r) r)) replay-decoded
+      ∙ ap (λ (x : Option Refusal). unless x (replayTrace t)) replay-meaningful
+
+  -- each of its commits passes every level
+  pub replay-passes : (l : Level) → Each (Passes l) (opening (t .keys)) (replayTrace t .events)
+  unfolding replayTrace
+  replay-passes = replays-trace .passes
+
+  pub replay-store : finalStore (replayTrace t) ≡ finalStore t
+  unfolding replayTrace
+  replay-store = sym (replays-trace .same-store)
