@@ -21,19 +21,22 @@ use Rattle.levels.proofs.Levels.{Passes, every-clause, all-say}
 use Rattle.answer.specs.Replay.{fullView, fullShift, fullCommit, replayed, replayEvents}
 use Rattle.answer.proofs.FullView.{HoldsAll, full-holds-all, full-view, same-newest}
 
--- ---- what a view matters to a store
+-- ---- what the store after a commit owes to the view
 
+-- a read is noted at the same version
 note-same : (o : Option Value) (p q t : ℕ) (vs : List Version) → (T (isSome o) → p ≡ q) → noteRead o p t vs ≡ noteRead o q t vs
 unfolding noteRead isSome
 note-same none p q t vs e = refl
 note-same (some x) p q t vs e = ap (λ (i : ℕ). noteRead (some x) i t vs) (e tt)
 
--- a commit leaves the same store on two views that see the same newest versions of the keys that it reads
+-- a commit leaves the same store from two views that see the same newest versions of the keys that it reads
 update-same : (s : Store) (u v : View) (c : Commit) → ((k : Key) → T (reads c k) → newest u k ≡ newest v k) → update s u c ≡ update s v c
 unfolding update
 update-same s u v c e = λ i. record {
   keys = s .keys;
-  versions = fun-ext (λ k. ap (append (valueOf write (c .operations) k) (nextNumber s)) (note-same (valueOf read (c .operations) k) (newest u k) (newest v k) (nextNumber s) (s .versions k) (e k))) i;
+  versions = fun-ext (λ k.
+      ap (append (valueOf write (c .operations) k) (nextNumber s))
+        (note-same (valueOf read (c .operations) k) (newest u k) (newest v k) (nextNumber s) (s .versions k) (e k))) i;
   clientOf = atNumber (nextNumber s) (c .client) (s .clientOf);
   sessionOf = atNumber (nextNumber s) (c .session) (s .sessionOf);
   commits = suc (s .commits);
@@ -61,8 +64,8 @@ module _ (g r : Configuration) (c : Commit) (same : g .store ≡ r .store) (soun
   s = r .store
 
   -- the view that the commit was made on, and the configuration that its replay is made on
-  abbrev u : View
-  u = viewBefore g c
+  abbrev before : View
+  before = viewBefore g c
 
   abbrev shifted : Configuration
   shifted = step r (fullShift r c)
@@ -88,16 +91,19 @@ module _ (g r : Configuration) (c : Commit) (same : g .store ≡ r .store) (soun
   shifted-view = at-same (c .client) (fullView s) (r .views)
 
   -- the two views see the same newest version of a key that is read
-  newest-full : (k : Key) → T (reads c k) → newest u k ≡ newest (fullView s) k
+  newest-full : (k : Key) → T (reads c k) → newest before k ≡ newest (fullView s) k
   newest-full k t =
-      same-newest s k (fits .read-keys k t) u (fullView s)
-        (subst (λ (x : Store). IsView x u) same (sound-g .views (c .client))) full
-        (subst (λ (x : Store). HoldsAll x u k) same (λ i l. ser .0 _ k i (l, refl))) (full-holds-all s k)
+      same-newest s k (fits .read-keys k t) before (fullView s)
+        (subst (λ (x : Store). IsView x before) same (sound-g .views (c .client))) full
+        (subst (λ (x : Store). HoldsAll x before k) same (λ i l. ser .0 _ k i (l, refl))) (full-holds-all s k)
 
   -- so the stores after are equal again
   store-after : storeAfter g c ≡ replayed r c .store
   unfolding step update
-  store-after = ap (λ (x : Store). update x u c) same ∙ update-same s u (fullView s) c newest-full ∙ ap (λ (v : View). update s v c) (sym shifted-view)
+  store-after =
+      ap (λ (x : Store). update x before c) same
+      ∙ update-same s before (fullView s) c newest-full
+      ∙ ap (λ (v : View). update s v c) (sym shifted-view)
 
   sound-after : SoundStore (storeAfter shifted (fullCommit r c))
   unfolding step
@@ -118,7 +124,7 @@ module _ (g r : Configuration) (c : Commit) (same : g .store ≡ r .store) (soun
     newer = subst (λ (x : Store). (t : CommitNumber) → Appears x t → 0 < t → x .clientOf t ≡ c .client → x .sessionOf t < c .session) same (legal .newer);
     values = λ k x e.
         legal .values k x e
-        ∙ ap (λ (y : Store). version y k (newest u k) .value) same
+        ∙ ap (λ (y : Store). version y k (newest before k) .value) same
         ∙ ap (λ (i : VersionNumber). version s k i .value) (newest-full k (isSome-some _ x e))
         ∙ ap (λ (v : View). version s k (newest v k) .value) (sym shifted-view);
     view = full-after;
@@ -130,7 +136,8 @@ module _ (g r : Configuration) (c : Commit) (same : g .store ≡ r .store) (soun
   -- and passes every level
   passes-all : (l : Level) → Passes l shifted (fullCommit r c)
   unfolding step update
-  passes-all l = all-say shifted (fullCommit r c) (every-clause shifted (fullCommit r c) (holds-all, tt) (keeps-all, tt) (holds-own, tt)) (clausesOf l)
+  passes-all l =
+      all-say shifted (fullCommit r c) (every-clause shifted (fullCommit r c) (holds-all, tt) (keeps-all, tt) (holds-own, tt)) (clausesOf l)
     where
       holds-all : (a k i : ℕ) → Wrote (shifted .store) a k i → held (viewBefore shifted (fullCommit r c)) k i
       holds-all a k i w = subst (λ (v : View). held v k i) (sym shifted-view) (full-holds-all s k i (w .0))
@@ -141,6 +148,7 @@ module _ (g r : Configuration) (c : Commit) (same : g .store ≡ r .store) (soun
       holds-own : (k i : ℕ) → Wrote (storeAfter shifted (fullCommit r c)) (nextNumber (shifted .store)) k i → held (fullCommit r c .viewAfter) k i
       holds-own k i w = full-holds-all (storeAfter shifted (fullCommit r c)) k i (w .0)
 
+  -- the replay of one commit
   pub replays-commit : ReplaysCommit g r c
   unfolding step
   replays-commit = record {
@@ -162,14 +170,15 @@ pub record Replays (g r : Configuration) (es : List Event) : Type 0 where
   pub passes : (l : Level) → Each (Passes l) r (replayEvents r es)
   pub same-store : final g es .store ≡ final r (replayEvents r es) .store
 
+-- from equal stores on, by the records in turn
 pub replays : (g r : Configuration) (es : List Event) → g .store ≡ r .store → Sound g → Sound r → nextNumber (g .store) + commitsIn es ≤ 64
     → LegalRun g es → Each (Passes SER) g es → Replays g r es
 unfolding replayEvents final commitsIn step update
-replays g r [] same h h′ room done p = record { fits = tt; legal = done; passes = λ l. tt; same-store = same }
-replays g r (shift d u ∷ es) same h h′ room (shifts f l n) p =
-    let rest = replays (step g (shift d u)) r es same (sound-shifts h l) h′ room n p in
+replays g r [] same h h′ few done p = record { fits = tt; legal = done; passes = λ l. tt; same-store = same }
+replays g r (shift d u ∷ es) same h h′ few (shifts f l n) p =
+    let rest = replays (step g (shift d u)) r es same (sound-shifts h l) h′ few n p in
     record { fits = rest .fits; legal = rest .legal; passes = rest .passes; same-store = rest .same-store }
-replays g r (commit c ∷ es) same h h′ room (commits f l n) p =
+replays g r (commit c ∷ es) same h h′ few (commits f l n) p =
     let one = replays-commit g r c same h h′ f l (p .0) (omega arith) in
     let rest = replays (step g (commit c)) (replayed r c) es (one .same-store) (sound-commits h f l) (one .sound) (omega arith) n (p .1) in
     record {

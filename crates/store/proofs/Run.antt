@@ -33,6 +33,12 @@ sound-shifts {g} {d} {u} h l = sound-shift g d u h (l .view)
 pub sound-commits : {g : Configuration} {c : Commit} → Sound g → FitsCommit (g .store .keys) c → LegalCommit g c → Sound (step g (commit c))
 sound-commits {g} {c} h f l = sound-commit g c h f (l .view)
 
+pub sound-run : {g : Configuration} {es : List Event} → Sound g → LegalRun g es → Sound (final g es)
+unfolding final
+sound-run h done = h
+sound-run h (shifts f l r) = sound-run (sound-shifts h l) r
+sound-run h (commits f l r) = sound-run (sound-commits h f l) r
+
 -- none of codes 9 to 14 is due exactly where the run is legal
 pub legal-run : (n : ℕ) (g : Configuration) (es : List Event) → Sound g → FitsAll (g .store .keys) es → (firstAlong refusesEvent n g es ≡ none) ↔ LegalRun g es
 unfolding firstAlong step update
