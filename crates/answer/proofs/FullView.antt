@@ -25,7 +25,7 @@ full-view s h room = record {
   beyond = λ k l. ap below (none-beyond k l (decLt 0 (count s k)));
   opened = λ k l. full-holds-all s k 0 (h .some-version k l);
   exist = λ k i t. below-has (count s k) i t;
-  whole = λ t k i l j b w v. full-holds-all s l j (v .0)
+  whole = λ t k i l j b w v. full-holds-all s l j (v .0);
 }
   where
     none-beyond : (k : Key) → s .keys ≤ k → Dec (0 < count s k) → count s k ≡ 0

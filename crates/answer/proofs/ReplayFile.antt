@@ -33,10 +33,13 @@ replay-fitting : (keys clients : ℕ) (r : Configuration) (es : List Event) → 
 unfolding replayEvents
 replay-fitting keys clients r [] f a = tt
 replay-fitting keys clients r (shift d u ∷ es) f a = replay-fitting keys clients r es (f .1) a
-replay-fitting keys clients r (commit c ∷ es) f a =
-    ( record { client-below = f .0 .client-below; view-fits = a .0 }
-    , (record { client-below = f .0 .client-below; session-fits = f .0 .session-fits; rising = f .0 .rising; view-fits = a .1 .0 .after }
-    , replay-fitting keys clients (replayed r c) es (f .1) (a .1 .1)) )
+replay-fitting keys clients r (commit c ∷ es) f a = (
+  record { client-below = f .0 .client-below; view-fits = a .0 },
+  (
+    record { client-below = f .0 .client-below; session-fits = f .0 .session-fits; rising = f .0 .rising; view-fits = a .1 .0 .after },
+    replay-fitting keys clients (replayed r c) es (f .1) (a .1 .1),
+  ),
+)
 
 -- two records for each commit
 replay-records : (r : Configuration) (es : List Event) → length (replayEvents r es) ≡ 2 * commitsIn es
@@ -58,7 +61,7 @@ module _ (t : Trace) (w : WellFormed t) (h : Taken t) (ser : Each (Passes SER) (
   unfolding openingStore opening
   run =
       replays (opening (t .keys)) (opening (t .keys)) (t .events) refl (sound-opening (t .keys)) (sound-opening (t .keys))
-        (omega (arith, w .few-commits)) (h .legal) ser
+      (omega (arith, w .few-commits)) (h .legal) ser
 
   -- its records are in form, and each is legal in its turn
   pub replay-legal : Taken (replayTrace t)
@@ -104,7 +107,7 @@ module _ (t : Trace) (w : WellFormed t) (h : Taken t) (ser : Each (Passes SER) (
   replay-outcome = record {
     same-store = sym (run .same-store);
     same-image = ap image (sym (run .same-store));
-    all-accept = λ l. accepts-each (replayTrace t) replay-legal l .1 (run .passes l)
+    all-accept = λ l. accepts-each (replayTrace t) replay-legal l .1 (run .passes l);
   }
 
 -- "the same commits in the same order, each made from a full view and left with one, are taken too, give the same store and the

@@ -36,7 +36,7 @@ update-same s u v c e = λ i. record {
   keys = s .keys;
   versions = fun-ext (λ k.
       ap (append (valueOf write (c .operations) k) (nextNumber s))
-        (note-same (valueOf read (c .operations) k) (newest u k) (newest v k) (nextNumber s) (s .versions k) (e k))) i;
+      (note-same (valueOf read (c .operations) k) (newest u k) (newest v k) (nextNumber s) (s .versions k) (e k))) i;
   clientOf = atNumber (nextNumber s) (c .client) (s .clientOf);
   sessionOf = atNumber (nextNumber s) (c .session) (s .sessionOf);
   commits = suc (s .commits);
@@ -94,8 +94,8 @@ module _ (g r : Configuration) (c : Commit) (same : g .store ≡ r .store) (soun
   newest-full : (k : Key) → T (reads c k) → newest before k ≡ newest (fullView s) k
   newest-full k t =
       same-newest s k (fits .read-keys k t) before (fullView s)
-        (subst (λ (x : Store). IsView x before) same (sound-g .views (c .client))) full
-        (subst (λ (x : Store). HoldsAll x before k) same (λ i l. ser .0 _ k i (l, refl))) (full-holds-all s k)
+      (subst (λ (x : Store). IsView x before) same (sound-g .views (c .client))) full
+      (subst (λ (x : Store). HoldsAll x before k) same (λ i l. ser .0 _ k i (l, refl))) (full-holds-all s k)
 
   -- so the stores after are equal again
   store-after : storeAfter g c ≡ replayed r c .store
@@ -130,7 +130,7 @@ module _ (g r : Configuration) (c : Commit) (same : g .store ≡ r .store) (soun
     view = full-after;
     still = λ k nr nw.
         ap (λ (vs : List Version). below (length vs)) (untouched s (viewBefore shifted (fullCommit r c)) (fullCommit r c) k nr nw)
-        ∙ ap (λ (v : View). v k) (sym shifted-view)
+        ∙ ap (λ (v : View). v k) (sym shifted-view);
   }
 
   -- and passes every level
@@ -141,10 +141,12 @@ module _ (g r : Configuration) (c : Commit) (same : g .store ≡ r .store) (soun
     where
       holds-all : (a k i : ℕ) → Wrote (shifted .store) a k i → held (viewBefore shifted (fullCommit r c)) k i
       holds-all a k i w = subst (λ (v : View). held v k i) (sym shifted-view) (full-holds-all s k i (w .0))
+
       keeps-all : (k i : ℕ) → held (viewBefore shifted (fullCommit r c)) k i → held (fullCommit r c .viewAfter) k i
       keeps-all k i b =
           let l : i < count (shifted .store) k = shifted-sound .views (c .client) .exist k i b in
           full-holds-all (storeAfter shifted c) k i (omega (arith, count-update (shifted .store) (viewBefore shifted c) c k))
+
       holds-own : (k i : ℕ) → Wrote (storeAfter shifted (fullCommit r c)) (nextNumber (shifted .store)) k i → held (fullCommit r c .viewAfter) k i
       holds-own k i w = full-holds-all (storeAfter shifted (fullCommit r c)) k i (w .0)
 
@@ -158,7 +160,7 @@ module _ (g r : Configuration) (c : Commit) (same : g .store ≡ r .store) (soun
     commit-legal = legal-commit;
     passes = passes-all;
     sound = sound-commits shifted-sound fits-commit legal-commit;
-    same-store = store-after
+    same-store = store-after;
   }
 
 -- ---- the whole run
@@ -185,7 +187,7 @@ replays g r (commit c ∷ es) same h h′ few (commits f l n) p =
       fits = (one .shift-fits, (one .commit-fits, rest .fits));
       legal = shifts (one .shift-fits) (one .shift-legal) (commits (one .commit-fits) (one .commit-legal) (rest .legal));
       passes = λ m. (one .passes m, rest .passes m);
-      same-store = rest .same-store
+      same-store = rest .same-store;
     }
 
 -- the replay has as many commits

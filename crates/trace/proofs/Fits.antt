@@ -21,8 +21,8 @@ unfolding valueOf isSome
 valueOf-key a keys low [] k rise t = absurd t
 valueOf-key a keys low (o ∷ os) k rise t =
     choose-ind (λ (x : Option Value). T (isSome x) → k < keys) (sameAccess a (o .access) && eqb (o .key) k) (some (o .value)) (valueOf a os k)
-      (λ here s. subst (λ (j : Key). j < keys) (eqb→eq (o .key) k (and-right (sameAccess a (o .access)) (eqb (o .key) k) here)) (rise .0 .of-the-store))
-      (λ elsewhere. valueOf-key a keys (suc (rank o)) os k (rise .1)) t
+    (λ here s. subst (λ (j : Key). j < keys) (eqb→eq (o .key) k (and-right (sameAccess a (o .access)) (eqb (o .key) k) here)) (rise .0 .of-the-store))
+    (λ elsewhere. valueOf-key a keys (suc (rank o)) os k (rise .1)) t
 
 commit-fits : (keys clients : ℕ) (c : Commit) → FitsCommit keys clients c → Store.FitsCommit keys c
 commit-fits keys clients c f = record {
