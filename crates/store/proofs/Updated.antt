@@ -7,10 +7,11 @@ use mathlib.Core.List.{List, [], _∷_, _++_}
 use Prim.Native.Nat.{ℕ, zero, suc, _+_, _≤_, _<_}
 use native.Mathlib.Omega.{arith}
 use native.Mathlib.Decide.{ℕ-discrete, decLt}
-use lib.Dec.{T, eqb, eqb→eq, eqb-refl}
+use lib.Dec.{T}
 use lib.ListN.{length, getD, set, length-append, length-set, List·getD-append}
 use lib.Seq.{getD-set-same, getD-set-other, getD-append-seam}
-use Rattle.search.specs.Choose.{choose, isSome}
+use Rattle.search.specs.Choose.{isSome}
+use Rattle.search.proofs.Choose.{choose-same, choose-other}
 use Rattle.search.proofs.Tests.{T?, or-left, or-right, isSome-some, isSome-none, not-is, some-of}
 use Rattle.sets.specs.Set.{has, insert, highest}
 use Rattle.sets.proofs.Laws.{insert-has, has-insert, has-none}
@@ -20,20 +21,10 @@ use Rattle.store.specs.Update.{valueOf, reads, writes, touches, newest, 
 -- ---- tables
 
 pub at-same : {A : Type 0} (n : ℕ) (a : A) (f : ℕ → A) → atNumber n a f n ≡ a
-unfolding choose
-at-same n a f = go (eqb n n) (eqb-refl n)
-  where
-    go : (b : Bool) → T b → choose b a (f n) ≡ a
-    go true t = refl
-    go false t = absurd t
+at-same n a f = choose-same n a (f n)
 
 pub at-other : {A : Type 0} (n : ℕ) (a : A) (f : ℕ → A) (m : ℕ) → m ≢ n → atNumber n a f m ≡ f m
-unfolding choose
-at-other n a f m h = go (eqb m n) refl
-  where
-    go : (b : Bool) → eqb m n ≡ b → choose b a (f m) ≡ f m
-    go true e = absurd (h (eqb→eq m n (rw e tt)))
-    go false e = refl
+at-other n a f m h = choose-other m n a (f m) h
 
 -- ---- a read noted at one version
 

@@ -12,12 +12,14 @@ use Rattle.endian.specs.Endian.{Bytes, leAt}
 use Rattle.endian.proofs.Laws.{leAt-lt}
 use Rattle.store.specs.Limits.{maxCommits, minBytes, maxBytes}
 use Rattle.store.specs.Store.{Event}
+use Rattle.store.proofs.Sound.{FitsView}
+use Rattle.store.proofs.Run.{commitsIn}
 use Rattle.trace.specs.Result.{Result, refused, taken, onTaken}
 use Rattle.trace.specs.Format.{Header, Trace, viewAt, accessOf, operationAt, operationsAt, rankAt, operationFits, operationsFit, Record, misshapen, whole, shiftAt, commitLength, commitOf, commitAt, recordAt, commitsWith, onRecord, eventsFrom, headerAt, withinLimits, decode}
 use Rattle.trace.specs.Encode.{accessNumber, encode}
 use Rattle.trace.proofs.Sizes.{eventLength, eventsLength, length-encode}
 use Rattle.trace.proofs.Tests.{operationFits-is, withinLimits-is}
-use Rattle.trace.proofs.WellFormed.{rank, FitsOperation, Rise, FitsView, FitsEvent, FitsEvents, commitsIn, commitsWith-commitsIn, WellFormed}
+use Rattle.trace.proofs.WellFormed.{rank, FitsOperation, Rise, FitsEvent, FitsEvents, commitsWith-commitsIn, WellFormed}
 
 -- ---- answers
 
@@ -103,8 +105,8 @@ module _ (s : List ℕ) (bytes : Bytes s) where
   view-read : (at keys : ℕ) → FitsView keys (viewAt s at keys)
   unfolding viewAt
   view-read at keys = record {
-    mask-fits = λ k. choose-ind (λ m. m < 2 ^ 64) (ltb k keys) (leAt s (at + 8 * k) 8) 0 (λ t. leAt-lt s bytes 8 (at + 8 * k)) (λ t. lit< tt);
-    none-beyond = λ k beyond. choose-no (ltb k keys) (leAt s (at + 8 * k) 8) 0 (no-ltb beyond);
+    word = λ k. choose-ind (λ m. m < 2 ^ 64) (ltb k keys) (leAt s (at + 8 * k) 8) 0 (λ t. leAt-lt s bytes 8 (at + 8 * k)) (λ t. lit< tt);
+    beyond = λ k beyond. choose-no (ltb k keys) (leAt s (at + 8 * k) 8) 0 (no-ltb beyond);
   }
 
   -- an operation that passes its test fits, and its rank is the one tested

@@ -16,12 +16,14 @@ use Rattle.endian.proofs.Laws.{length-leBytes}
 use Rattle.endian.proofs.Stands.{Stands, stands-whole, stands-at, stands-within, stands-first, stands-second, stands-behind, stands-piece, read-fitting, read-first}
 use Rattle.store.specs.Limits.{maxKeys, maxClients, maxCommits, minBytes, maxBytes}
 use Rattle.store.specs.Store.{Client, View, Access, read, write, Operation, Commit, Event, shift, commit}
+use Rattle.store.proofs.Sound.{FitsView}
+use Rattle.store.proofs.Run.{commitsIn}
 use Rattle.trace.specs.Result.{Result, taken, onTaken}
 use Rattle.trace.specs.Format.{Header, Trace, viewAt, accessOf, operationAt, operationsAt, rankAt, operationFits, operationsFit, whole, shiftLength, shiftAt, commitLength, commitOf, commitAt, recordAt, commitsWith, onRecord, eventsFrom, headerAt, withinLimits, decode}
 use Rattle.trace.specs.Encode.{accessNumber, operationBytes, operationsBytes, viewBytes, eventBytes, eventsBytes, fileBody, encode}
 use Rattle.trace.proofs.Sizes.{length-operationBytes, length-operationsBytes, eventLength, length-eventBytes, eventsLength, length-fileBody, length-encode}
 use Rattle.trace.proofs.Tests.{operationFits-is, withinLimits-is}
-use Rattle.trace.proofs.WellFormed.{rank, FitsOperation, Rise, accessNumber-le-one, rising-length, FitsView, FitsShift, FitsCommit, FitsEvent, FitsEvents, commitsIn, commitsWith-commitsIn, WellFormed}
+use Rattle.trace.proofs.WellFormed.{rank, FitsOperation, Rise, accessNumber-le-one, rising-length, FitsShift, FitsCommit, FitsEvent, FitsEvents, commitsWith-commitsIn, WellFormed}
 
 -- the header of a trace
 abbrev headerOf : Trace → Header
@@ -43,9 +45,9 @@ module _ (s : List ℕ) where
       at-key : (k : ℕ) → Dec (k < keys) → viewAt s at keys k ≡ u k
       at-key k (yes below) =
           choose-yes (ltb k keys) (leAt s (at + 8 * k) 8) 0 (lt→ltb _ _ below)
-          ∙ read-fitting 8 (u k) (fits .mask-fits k) (stands-piece keys 8 k (λ j. leBytes 8 (u j)) (λ j. length-leBytes 8 (u j)) below h)
+          ∙ read-fitting 8 (u k) (fits .word k) (stands-piece keys 8 k (λ j. leBytes 8 (u j)) (λ j. length-leBytes 8 (u j)) below h)
       at-key k (no beyond) =
-          choose-no (ltb k keys) (leAt s (at + 8 * k) 8) 0 (le→nltb k keys (omega arith)) ∙ sym (fits .none-beyond k (omega arith))
+          choose-no (ltb k keys) (leAt s (at + 8 * k) 8) 0 (le→nltb k keys (omega arith)) ∙ sym (fits .beyond k (omega arith))
 
   -- the four numbers of an operation
   operation-numbers : (at : ℕ) (o : Operation) → o .key < 256 → o .value < 2 ^ 32 → Stands s at (operationBytes o)

@@ -7,6 +7,8 @@ use lib.Dec.{lit≤}
 use lib.ListN.{length}
 use Rattle.store.specs.Limits.{maxKeys, maxClients, maxCommits, maxBytes}
 use Rattle.store.specs.Store.{Client, View, Access, read, write, Operation, Commit, Event, shift, commit}
+use Rattle.store.proofs.Sound.{FitsView}
+use Rattle.store.proofs.Run.{commitsIn}
 use Rattle.trace.specs.Format.{Trace, commitLength, commitsWith}
 use Rattle.trace.specs.Encode.{accessNumber, encode}
 use Rattle.trace.proofs.Sizes.{eventLength, eventsLength}
@@ -47,11 +49,6 @@ rising-length keys os r = omega (arith, rising-length-from keys 0 os zero-le r)
 
 -- ---- records
 
--- masks of 64 bits, and none at a key that the store does not have
-pub record FitsView (keys : ℕ) (u : View) : Type 0 where
-  pub mask-fits : (k : ℕ) → u k < 2 ^ 64
-  pub none-beyond : (k : ℕ) → keys ≤ k → u k ≡ 0
-
 -- "client not below the header's" is refused
 pub record FitsShift (keys clients : ℕ) (d : Client) (u : View) : Type 0 where
   pub client-below : d < clients
@@ -87,12 +84,7 @@ events-size keys clients (e ∷ es) few fits =
     let rest = events-size keys clients es few (fits .1) in
     omega arith
 
--- how many commits there are
-unfoldable pub commitsIn : List Event → ℕ
-commitsIn [] = 0
-commitsIn (e ∷ es) = commitsWith e (commitsIn es)
-
--- those up to and with a record, and those after it
+-- the commits up to and with a record, and those after it
 pub commitsWith-commitsIn : (e : Event) (es : List Event) (commits : ℕ) → commitsWith e commits + commitsIn es ≡ commits + commitsIn (e ∷ es)
 unfolding commitsIn
 commitsWith-commitsIn (shift d u) es commits = refl

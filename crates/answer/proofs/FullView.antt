@@ -1,0 +1,45 @@
+-- The full view of a store is a view of it, and every view that holds all versions of a key sees the same newest one. Assumes nothing.
+use mathlib.Core.Path.{_≡_, ap}
+use Prim.Native.Nat.{ℕ, _^_, _≤_, _<_}
+use native.Mathlib.Omega.{arith}
+use native.Mathlib.Decide.{decLt}
+use lib.Dec.{T}
+use Rattle.sets.specs.Set.{has, below}
+use Rattle.sets.proofs.Laws.{has-large, has-below, below-has, below-word, has-highest, highest-most}
+use Rattle.store.specs.Store.{Key, View, Store, count, nextNumber}
+use Rattle.store.specs.Update.{newest}
+use Rattle.store.proofs.Sound.{IsView, SoundStore}
+use Rattle.answer.specs.Replay.{fullView}
+
+-- the view holds every version of the key
+abbrev pub HoldsAll : Store → View → Key → Type 0
+HoldsAll s u k = (i : ℕ) → i < count s k → T (has (u k) i)
+
+pub full-holds-all : (s : Store) (k : Key) → HoldsAll s (fullView s) k
+full-holds-all s k i l = has-below (count s k) i l
+
+-- a full view is a view, where a word has room for all versions
+pub full-view : (s : Store) → SoundStore s → nextNumber s ≤ 64 → IsView s (fullView s)
+full-view s h room = record {
+  word = λ k. below-word (count s k) (omega (arith, h .few k));
+  beyond = λ k l. ap below (none-beyond k l (decLt 0 (count s k)));
+  opened = λ k l. full-holds-all s k 0 (h .some-version k l);
+  exist = λ k i t. below-has (count s k) i t;
+  whole = λ t k i l j b w v. full-holds-all s l j (v .0);
+}
+  where
+    none-beyond : (k : Key) → s .keys ≤ k → Dec (0 < count s k) → count s k ≡ 0
+    none-beyond k l (yes p) = let q : k < s .keys = h .only-keys k 0 p in absurd (omega arith)
+    none-beyond k l (no n) = omega arith
+
+module _ (s : Store) (k : Key) (l : k < s .keys) where
+  -- a view that holds every version of a key sees none older than another view does
+  newest-le : (u v : View) → IsView s u → IsView s v → HoldsAll s v k → newest u k ≤ newest v k
+  newest-le u v a b all =
+      let some-u : 2 ^ 0 ≤ u k = has-large (u k) 0 (a .opened k l) in
+      let some-v : 2 ^ 0 ≤ v k = has-large (v k) 0 (b .opened k l) in
+      highest-most (v k) (omega arith) (b .word k) (newest u k) (all (newest u k) (a .exist k (newest u k) (has-highest (u k) (omega arith) (a .word k))))
+
+  -- views that hold every version of a key have the same newest one
+  pub same-newest : (u v : View) → IsView s u → IsView s v → HoldsAll s u k → HoldsAll s v k → newest u k ≡ newest v k
+  same-newest u v a b all-u all-v = omega (arith, newest-le u v a b all-v, newest-le v u b a all-u)
