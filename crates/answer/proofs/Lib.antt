@@ -6,3 +6,4 @@ pub mod Rings
 pub mod FullView
 pub mod Replayed
 pub mod ReplayFile
+pub mod Demand3
