@@ -56,7 +56,7 @@ module _ (l : Level) where
       → (failure-at n g c ≡ none) ↔ Passes l g c
   no-failure-is n g c h f =
       fails-none n (g .store) (viewBefore g c) c (h .store) (h .views (c .client))
-        (sound-update (g .store) (viewBefore g c) c (h .store) (f .read-keys) (f .write-keys)) (clausesOf l)
+      (sound-update (g .store) (viewBefore g c) c (h .store) (f .read-keys) (f .write-keys)) (clausesOf l)
 
   -- no failure is found exactly where each commit passes
   no-failure-each : (n : ℕ) {g : Configuration} {es : List Event} → Sound g → LegalRun g es
@@ -88,14 +88,16 @@ module _ (l : Level) where
       -- by what the commit at hand answers
       go : (o : Option Failure) → failure-at n g c ≡ o → (a ≤ fails-from (suc n) g′ es) ↔ EachBelow a (Passes l) g′ es
           → (a ≤ failingCommit (orElse o (failure-from (suc n) g′ es)) (final g′ es .store .commits))
-            ↔ EachBelow a (Passes l) g (commit c ∷ es)
-      go none e rest =
-          ( λ x. let y = rest .0 x in (y .0, (λ m. no-failure-is n g c h f .0 e, y .1))
-          , λ x. rest .1 (x .0, x .1 .1) )
-      go (some x) e rest =
-          ( λ b. let b′ : a ≤ t = omega (arith, here) in
-              (omega (arith, final-commits g′ es), (λ m. absurd (omega arith), each-later a (Passes l) g′ es (omega arith)))
-          , λ b. omega (arith, here, not-above (b .1 .0) (decLe a t)) )
+          ↔ EachBelow a (Passes l) g (commit c ∷ es)
+      go none e rest = (
+        λ x. let y = rest .0 x in (y .0, (λ m. no-failure-is n g c h f .0 e, y .1)),
+        λ x. rest .1 (x .0, x .1 .1),
+      )
+      go (some x) e rest = (
+        λ b. let b′ : a ≤ t = omega (arith, here) in
+            (omega (arith, final-commits g′ es), (λ m. absurd (omega arith), each-later a (Passes l) g′ es (omega arith))),
+        λ b. omega (arith, here, not-above (b .1 .0) (decLe a t)),
+      )
         where
           here : x .commit ≡ t
           here = fails-number n (g .store) (viewBefore g c) c (clausesOf l) x e
@@ -128,8 +130,11 @@ module _ (t : Trace) (h : Taken t) where
   weaken P Q f = each-map P Q (λ g c _ _ _. f g c) (sound-opening (t .keys)) (h .legal)
 
   below-both : (a : ℕ) (P Q : OfCommit) → Below a P → Below a Q → Below a (λ g c. P g c × Q g c)
-  below-both a P Q p q = (p .0, weaken (λ g c. Until a P g c × Until a Q g c) (Until a (λ g c. P g c × Q g c)) (λ g c x m. (x .0 m, x .1 m))
-      (each-both (Until a P) (Until a Q) (opening (t .keys)) (t .events) (p .1) (q .1)))
+  below-both a P Q p q = (
+    p .0,
+    weaken (λ g c. Until a P g c × Until a Q g c) (Until a (λ g c. P g c × Q g c)) (λ g c x m. (x .0 m, x .1 m))
+        (each-both (Until a P) (Until a Q) (opening (t .keys)) (t .events) (p .1) (q .1)),
+  )
 
   -- a level that P implies fails no earlier than at a, where each commit with a number below a has P
   implied-no-earlier : (a : ℕ) (P : OfCommit) (l : Level) → ((g : Configuration) (c : Commit) → P g c → Passes l g c)
@@ -167,14 +172,17 @@ module _ (t : Trace) (h : Taken t) where
   pub cc-wfr : failsAt CC t ≤ failsAt WFR t
   cc-wfr = fails-no-later CC WFR cc→wfr
 
-  -- the earliest of the three
+  -- the three together are the strongest; the earliest of their failures
+  abbrev Strongest : OfCommit
+  Strongest g c = Passes SER g c × (Passes MR g c × Passes RYW g c)
+
   abbrev earliest : CommitNumber
   earliest = min (failsAt SER t) (min (failsAt MR t) (failsAt RYW t))
 
   pub earliest-si : min (failsAt SER t) (min (failsAt MR t) (failsAt RYW t)) ≤ failsAt SI t
   earliest-si =
-      implied-no-earlier earliest (λ g c. Passes SER g c × (Passes MR g c × Passes RYW g c)) SI
-        (λ g c (ser, (mr, ryw)). all-say g c (every-clause g c ser mr ryw) (clausesOf SI))
-        (below-both earliest (Passes SER) (λ g c. Passes MR g c × Passes RYW g c) (fails-no-earlier SER earliest .0 (omega arith))
-          (below-both earliest (Passes MR) (Passes RYW)
-            (fails-no-earlier MR earliest .0 (omega arith)) (fails-no-earlier RYW earliest .0 (omega arith))))
+      let ser : Below earliest (Passes SER) = fails-no-earlier SER earliest .0 (omega arith) in
+      let mr : Below earliest (Passes MR) = fails-no-earlier MR earliest .0 (omega arith) in
+      let ryw : Below earliest (Passes RYW) = fails-no-earlier RYW earliest .0 (omega arith) in
+      implied-no-earlier earliest Strongest SI (λ g c (s, (m, r)). all-say g c (every-clause g c s m r) (clausesOf SI))
+      (below-both earliest (Passes SER) (λ g c. Passes MR g c × Passes RYW g c) ser (below-both earliest (Passes MR) (Passes RYW) mr ryw))

@@ -11,13 +11,14 @@ use Rattle.search.proofs.Search.{any-is}
 use Rattle.sets.specs.Set.{has}
 use Rattle.relations.specs.Relation.{Relation, union, thenMaybe, plus, ThenMaybe, Plus}
 use Rattle.relations.proofs.Closure.{Means, Below, union-means, thenMaybe-means, plus-means-as}
-use Rattle.dependencies.specs.History.{History, Stored, as-writer, as-reader, session-order, write-read, write-write, read-write, PrefixStep, SnapshotStep, Holds}
+use Rattle.dependencies.specs.History.{History, Stored, as-writer, as-reader, session-order, write-read, write-write, read-write, by-SO, by-WR, by-WW, PrefixStep, SnapshotStep, Holds}
 use Rattle.dependencies.specs.History as D
 use Rattle.dependencies.proofs.Bounds.{StoredBelow, SO-below, WR-below, WW-below, prefix-below, snapshot-below}
 use Rattle.dependencies.proofs.Implications.{ReadsWritten, snapshotStep-is}
+use Rattle.dependencies.proofs.Rings.{LinkThat}
 use Rattle.store.specs.Store.{Key, VersionNumber, CommitNumber, View, Store, count, version, nextNumber}
 use Rattle.store.specs.Missing.{Rule}
-use Rattle.store.specs.Links.{wrote, hasRead, somewhere, stored, holds, SO, WR, earlierLater, WW, RW, withRW, prefixLinks, snapshotLinks, oneOrMore}
+use Rattle.store.specs.Links.{wrote, hasRead, somewhere, stored, holds, SO, WR, earlierLater, WW, RW, LinkKind, so, wr, ww, rw as rw-kind, linked, isRW, withRW, prefixLinks, snapshotLinks, oneOrMore}
 use Rattle.store.proofs.Updated.{Wrote, Read}
 use Rattle.store.proofs.Sound.{SoundStore, Appears}
 use Rattle.store.proofs.Missing.{somewhere-is}
@@ -103,6 +104,13 @@ module _ (s : Store) (h : SoundStore s) where
       out (n, (k, j, l, (i, m, (x, y)))) = read-write {k = k} {i = i} {j = j} (omega arith, x) (l, y) m n
       back : D.RW (history s) a b → Two
       back (read-write r w m n) = (n, (_, _, w .0, (_, m, (r .1, w .1))))
+
+  -- a link of each kind: by its kind, RW or not
+  pub link-means : (kind : LinkKind) (a b : CommitNumber) → T (linked s kind a b) → LinkThat (history s) (isRW kind) a b
+  link-means so a b x = by-SO (so-means a b .0 x)
+  link-means wr a b x = by-WR (wr-means a b .0 x)
+  link-means ww a b x = by-WW (ww-means a b .0 x)
+  link-means rw-kind a b x = rw-means a b .0 x
 
   -- R;RW?
   with-rw-means : {R : ℕ → ℕ → Type 0} (r : Relation) → Means r R → Below (nextNumber s) R → Means (withRW s r) (ThenMaybe R (D.RW (history s)))

@@ -71,7 +71,7 @@ unfolding choose
 opening-count true = omega arith
 opening-count false = omega arith
 
-opening-first : (b : Bool) (i : ℕ) → i < length (choose b (openingVersion ∷ []) []) → T b × (getD (choose b (openingVersion ∷ []) []) i openingVersion ≡ openingVersion)
+pub opening-first : (b : Bool) (i : ℕ) → i < length (choose b (openingVersion ∷ []) []) → T b × (getD (choose b (openingVersion ∷ []) []) i openingVersion ≡ openingVersion)
 unfolding choose
 opening-first true zero l = (tt, refl)
 opening-first true (suc i) l = absurd (omega arith)

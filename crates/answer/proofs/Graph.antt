@@ -1,0 +1,83 @@
+-- One legal commit on a sound configuration, as the proofs about rings see it: what it adds to the history of the store, and
+-- that the opening store has the opening history. With these the store meets the hypotheses of dependencies. Assumes nothing.
+use Prim.Native.Nat.{ℕ, _≤_, _<_}
+use native.Mathlib.Omega.{arith}
+use mathlib.Core.Path.{_≡_, refl, sym, _∙_, subst}
+use mathlib.Core.Logic.{_⊎_, inl, inr}
+use lib.Dec.{T, ltb}
+use Rattle.sets.specs.Set.{has}
+use Rattle.sets.proofs.Laws.{has-none, has-large, has-highest, highest-most}
+use Rattle.dependencies.proofs.Growth.{OwnWrite, OwnRead, Grown}
+use Rattle.dependencies.proofs.Opening.{Opening}
+use Rattle.store.specs.Store.{Key, Version, View, Store, Configuration, openingStore, opening, count, nextNumber, Commit}
+use Rattle.store.specs.Update.{reads, writes, newest, update, viewBefore, storeAfter}
+use Rattle.store.proofs.Updated.{at-same, at-other, Wrote, Read, wrote-update, read-update}
+use Rattle.store.proofs.Sound.{Sound, FitsCommit, LegalCommit, opening-first, sound-opening}
+use Rattle.store.proofs.Links.{history, held, reads-written, appears-stored, stored-below}
+
+-- "At the start each list is version 0: value 0, writer the opening transaction (number 0), no readers"
+pub opening-history : (keys : ℕ) → Opening (history (opening keys .store))
+unfolding opening openingStore
+opening-history keys = record {
+  only-first = λ a k i w.
+      let h = sound-opening keys .store in
+      let a-lt : a < 1 = h .writers a k i w in
+      let few : count (openingStore keys) k ≤ 1 = h .few k in
+      let i-lt : i < count (openingStore keys) k = w .0 in
+      (omega arith, omega arith);
+  no-readers = λ a k i r. has-none a (subst (λ (v : Version). T (has (v .readers) a)) (opening-first (ltb k keys) i (r .0) .1) (r .1));
+}
+
+-- the new commit stands in the table with its client
+pub new-client : (g : Configuration) (c : Commit) → storeAfter g c .clientOf (nextNumber (g .store)) ≡ c .client
+unfolding update
+new-client g c = at-same (nextNumber (g .store)) (c .client) (g .store .clientOf)
+
+module _ (g : Configuration) (c : Commit) (h : Sound g) (f : FitsCommit (g .store .keys) c) (l : LegalCommit g c) where
+  abbrev s : Store
+  s = g .store
+
+  abbrev u : View
+  u = viewBefore g c
+
+  -- a key that is read has a mask that holds version 0, so the newest is in it
+  newest-held : (k : Key) → T (reads c k) → T (has (u k) (newest u k)) × ((j : ℕ) → T (has (u k) j) → j ≤ newest u k)
+  newest-held k r =
+      let v = h .views (c .client) in
+      let p : 1 ≤ u k = has-large (u k) 0 (v .opened k (f .read-keys k r)) in
+      (has-highest (u k) p (v .word k), highest-most (u k) p (v .word k))
+
+  -- what a legal commit adds to the history
+  pub commit-grows : Grown (history s) (history (storeAfter g c)) (held u) (nextNumber s) (λ k. T (writes c k))
+  unfolding update
+  commit-grows = record {
+    stored-before = stored-below s (h .store);
+    client-kept = λ a m. at-other (nextNumber s) (c .client) (s .clientOf) a (omega arith);
+    session-kept = λ a m. at-other (nextNumber s) (c .session) (s .sessionOf) a (omega arith);
+    written-after = λ a k i w. own-write a k i (wrote-update s u c a k i w);
+    read-after = λ a k i r. own-read a k i (read-update s u c a k i r);
+    one-write = λ k i j w w′. write-last k i w ∙ sym (write-last k j w′);
+    reads-written = reads-written s;
+    view-written = λ k i x. (_, (h .views (c .client) .exist k i x, refl));
+    atomic = λ a (k, i, x, w) k′ i′ w′. h .views (c .client) .whole a k i k′ i′ x w w′;
+    session-grows = λ a (st, p, e).
+        rw (at-same (nextNumber s) (c .session) (s .sessionOf)) (l .newer a (appears-stored s a .1 st) p (e ∙ new-client g c));
+  }
+    where
+      own-write : (a k i : ℕ) → Wrote s a k i ⊎ ((a ≡ nextNumber s) × T (writes c k) × (i ≡ count s k))
+          → Wrote s a k i ⊎ OwnWrite (history s) (λ k. T (writes c k)) (nextNumber s) a k i
+      own-write a k i (inl x) = inl x
+      own-write a k i (inr (e, w, last)) = inr (e, w, λ b j x. let m : j < count s k = x .0 in omega arith)
+
+      own-read : (a k i : ℕ) → Read s a k i ⊎ ((a ≡ nextNumber s) × T (reads c k) × (i ≡ newest u k))
+          → Read s a k i ⊎ OwnRead (held u) (nextNumber s) a k i
+      own-read a k i (inl x) = inl x
+      own-read a k i (inr (e, r, n)) = let m = newest-held k r in inr (e, rw n (m .0), λ j x. rw n (m .1 j x))
+
+      -- the new commit's versions are the last of their keys
+      write-last : (k i : ℕ) → Wrote (storeAfter g c) (nextNumber s) k i → i ≡ count s k
+      write-last k i w = go (wrote-update s u c (nextNumber s) k i w)
+        where
+          go : Wrote s (nextNumber s) k i ⊎ ((nextNumber s ≡ nextNumber s) × T (writes c k) × (i ≡ count s k)) → i ≡ count s k
+          go (inl x) = let m : nextNumber s < nextNumber s = h .store .writers _ k i x in absurd (omega arith)
+          go (inr x) = x .2
