@@ -5,7 +5,7 @@ use mathlib.Core.Bool.{Bool, true, false, _&&_, _||_}
 use mathlib.Core.Logic.{_⊎_, inl, inr, _↔_}
 use mathlib.Core.Option.{Option, some, none}
 use native.Mathlib.Omega.{arith}
-use native.Mathlib.Decide.{ℕ-discrete}
+use native.Mathlib.Decide.{ℕ-discrete, decLt}
 use lib.Dec.{T}
 use Rattle.search.specs.Choose.{orElse, when}
 use Rattle.search.specs.Search.{any, least}
@@ -60,3 +60,15 @@ least-none n f = go (least n f) (least-is n f)
     go : (o : Option ℕ) → Least n f o → (o ≡ none) ↔ ((j : ℕ) → j < n → ¬ T (f j))
     go none (missed h) = (λ e. h, λ h′. refl)
     go (some i) (found l t h) = (λ e. some-none e, λ h′. absurd (h′ i l t))
+
+-- the first that passes is the least
+pub least-found : (n : ℕ) (f : ℕ → Bool) (i : ℕ) → i < n → T (f i) → ((j : ℕ) → j < i → ¬ T (f j)) → least n f ≡ some i
+least-found n f i l t h = go (least n f) (least-is n f)
+  where
+    same : (j : ℕ) → T (f j) → ((m : ℕ) → m < j → ¬ T (f m)) → Dec (j < i) → Dec (i < j) → _≡_ {A = Option ℕ} (some j) (some i)
+    same j u g (yes x) y = absurd (h j x u)
+    same j u g (no x) (yes y) = absurd (g i y t)
+    same j u g (no x) (no y) = let e : j ≡ i = omega arith in rw e
+    go : (o : Option ℕ) → Least n f o → o ≡ some i
+    go none (missed m) = absurd (m i l t)
+    go (some j) (found _ u g) = same j u g (decLt j i) (decLt i j)
