@@ -1,5 +1,5 @@
--- One legal commit on a sound configuration, as the proofs about rings see it: what it adds to the history of the store, and
--- that the opening store has the opening history. With these the store meets the hypotheses of dependencies. Assumes nothing.
+-- One legal commit on a sound configuration, as the proofs about rings see it: what it adds to the history of the store. With
+-- this the store meets the hypotheses of dependencies. Assumes nothing.
 use Prim.Native.Nat.{ℕ, _≤_, _<_}
 use native.Mathlib.Omega.{arith}
 use mathlib.Core.Path.{_≡_, refl, sym, _∙_, subst}
@@ -8,25 +8,11 @@ use lib.Dec.{T, ltb}
 use Rattle.sets.specs.Set.{has}
 use Rattle.sets.proofs.Laws.{has-none, has-large, has-highest, highest-most}
 use Rattle.dependencies.proofs.Growth.{OwnWrite, OwnRead, Grown}
-use Rattle.dependencies.proofs.Opening.{Opening}
 use Rattle.store.specs.Store.{Key, Version, View, Store, Configuration, openingStore, opening, count, nextNumber, Commit}
 use Rattle.store.specs.Update.{reads, writes, newest, update, viewBefore, storeAfter}
 use Rattle.store.proofs.Updated.{at-same, at-other, Wrote, Read, wrote-update, read-update}
 use Rattle.store.proofs.Sound.{Sound, FitsCommit, LegalCommit, opening-first, sound-opening}
 use Rattle.store.proofs.Links.{history, held, reads-written, appears-stored, stored-below}
-
--- "At the start each list is version 0: value 0, writer the opening transaction (number 0), no readers"
-pub opening-history : (keys : ℕ) → Opening (history (opening keys .store))
-unfolding opening openingStore
-opening-history keys = record {
-  only-first = λ a k i w.
-      let h = sound-opening keys .store in
-      let a-lt : a < 1 = h .writers a k i w in
-      let few : count (openingStore keys) k ≤ 1 = h .few k in
-      let i-lt : i < count (openingStore keys) k = w .0 in
-      (omega arith, omega arith);
-  no-readers = λ a k i r. has-none a (subst (λ (v : Version). T (has (v .readers) a)) (opening-first (ltb k keys) i (r .0) .1) (r .1));
-}
 
 -- the new commit stands in the table with its client
 pub new-client : (g : Configuration) (c : Commit) → storeAfter g c .clientOf (nextNumber (g .store)) ≡ c .client

@@ -21,6 +21,7 @@ use Rattle.store.specs.Links.{LinkKind, isRW}
 use Rattle.store.proofs.Updated.{at-same, at-other}
 use Rattle.store.proofs.Sound.{Sound, FitsCommit, LegalShift, LegalCommit, sound-opening}
 use Rattle.store.proofs.Links.{history, held, link-means}
+use Rattle.store.proofs.Opening.{opening-history}
 use Rattle.store.proofs.Run.{run-keeps}
 use Rattle.trace.specs.Format.{Trace}
 use Rattle.levels.specs.Level.{SI, SER}
@@ -29,7 +30,7 @@ use Rattle.answer.specs.Answer.{finalStore}
 use Rattle.answer.specs.Demand3.{Accepts, Dependency}
 use Rattle.answer.proofs.Taken.{Taken, sound-final}
 use Rattle.answer.proofs.Orders.{accepts-each}
-use Rattle.answer.proofs.Graph.{opening-history, new-client, commit-grows}
+use Rattle.answer.proofs.Graph.{new-client, commit-grows}
 
 -- the versions that each client's view holds
 abbrev views-of : Configuration → Client → D.View

@@ -14,16 +14,16 @@ pub record Opening (H : History) : Type 0 where
   pub no-readers : (a k i : ℕ) → ¬ H .read a k i
 
 module _ (H : History) (o : Opening H) where
-  stored-is-0 : {a : ℕ} → Stored H a → a ≡ 0
+  pub stored-is-0 : {a : ℕ} → Stored H a → a ≡ 0
   stored-is-0 (as-writer w) = o .only-first _ _ _ w .0
   stored-is-0 (as-reader r) = absurd (o .no-readers _ _ _ r)
 
-  no-plain : {a b : ℕ} → ¬ PlainLink H a b
+  pub no-plain : {a b : ℕ} → ¬ PlainLink H a b
   no-plain {a} (by-SO (session-order sa sb pa pb same less)) = let e : a ≡ 0 = stored-is-0 sa in omega arith
   no-plain (by-WR (write-read w r)) = o .no-readers _ _ _ r
   no-plain (by-WW (write-write {k} {i} {j} w w′ l)) = let e : j ≡ 0 = o .only-first _ _ _ w′ .1 in omega arith
 
-  no-dependency : (a b : ℕ) → ¬ Dependency H a b
+  pub no-dependency : (a b : ℕ) → ¬ Dependency H a b
   no-dependency a b (inl d) = no-plain d
   no-dependency a b (inr (read-write r w l n)) = o .no-readers _ _ _ r
 

@@ -4,3 +4,4 @@ pub mod Missing
 pub mod Legal
 pub mod Links
 pub mod Run
+pub mod Opening
