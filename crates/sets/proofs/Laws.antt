@@ -1,31 +1,18 @@
--- Laws of sets in a word. Callers reach `has`, `insert`, `below` and `highest` through these. Assumes nothing.
-use mathlib.Core.Path.{_≡_, refl, sym, ap, _∙_, subst}
-use mathlib.Core.Bool.{Bool}
+-- Laws of sets in a word. Callers reach `has`, `insert`, `below`, `highest`, `lowest` and `size` through these. Assumes nothing.
+use mathlib.Core.Path.{_≡_, refl, sym, ap, _∙_}
 use mathlib.Core.Logic.{_⊎_, inl, inr}
 use Prim.Native.Nat.{ℕ, zero, suc, _+_, _-_, _*_, _/_, _%_, _^_, _≤_, _<_, max}
-use native.Mathlib.Nat.{div-eq-of-lt, mul-div-cancel, div-eq-of-lt-le, pow-suc}
+use native.Mathlib.Nat.{div-eq-of-lt, div-self, mul-div-cancel, div-eq-of-lt-le, pow-suc}
+use native.Mathlib.Numerals.{add-one}
 use native.Mathlib.Omega.{arith}
 use native.Mathlib.Decide.{decLt, decLe}
 use lib.Dec.{T, eqb, eqb→eq}
-use lib.Arith.{digits-mod}
-use lib.Bits.{bitOr, or-shr, or-step}
-use lib.Pow.{pow-pos, pow-lt, pow-add, pow-mono, ones-split, ones-lt, high}
-use lib.Count.{leadingZeros, leading-top}
+use lib.Bits.{and-mask}
+use lib.Pow.{mod-pow-add, pow-pos, pow-lt, pow-add, pow-mono, ones-split, ones-lt, high}
+use lib.Count.{leadingZeros, leading-top, trailingZeros, under, ones-le}
 use Rattle.search.proofs.Tests.{eq-test}
-use Rattle.sets.specs.Set.{Set, has, insert, below, highest}
-
--- the digit that `has` tests
-abbrev digit : Set → ℕ → ℕ
-digit m i = m / 2 ^ i % 2
-
-digit-small : (m i : ℕ) → digit m i < 2
-digit-small m i = omega arith
-
-larger-small : (x y : ℕ) → x < 2 → y < 2 → max x y < 2
-larger-small x y h l = omega arith
-
-digit-or : (a b i : ℕ) → digit (bitOr a b) i ≡ max (digit a i) (digit b i)
-digit-or a b i = rw (or-shr a b i, or-step (a / 2 ^ i) (b / 2 ^ i)) (digits-mod _ (larger-small _ _ (digit-small a i) (digit-small b i)))
+use Rattle.sets.proofs.Digits.{digit, digit-small, digit-and, digit-or}
+use Rattle.sets.specs.Set.{has, insert, single, below, highest, lowest, size}
 
 -- ---- single numbers
 
@@ -52,11 +39,16 @@ has-lt n m i l h = go (decLt i n)
     go (yes x) = x
     go (no x) = let a : 2 ^ i ≤ m = has-large m i h in let b : 2 ^ n ≤ 2 ^ i = pow-mono (omega arith) in absurd (omega arith)
 
-only : (t i : ℕ) → T (has (2 ^ t) i) → i ≡ t
-only t i h = go (decLt i t) (decLt t i)
+-- a single number is held, and no other
+pub single-has : (t : ℕ) → T (has (single t) t)
+single-has t = let e : 2 ^ t / 2 ^ t ≡ 1 = div-self (pow-pos t) in eq-test (digit (2 ^ t) t) 1 (omega arith)
+
+pub single-only : (t i : ℕ) → T (has (single t) i) → i ≡ t
+single-only t i h = go (decLt i t) (decLt t i)
   where
     d : digit (2 ^ t) i ≡ 1
     d = eqb→eq _ 1 h
+
     go : Dec (i < t) → Dec (t < i) → i ≡ t
     go (no n) (no m) = omega arith
     go (no n) (yes m) = let z : 2 ^ t / 2 ^ i ≡ 0 = div-eq-of-lt (pow-lt m) in omega (arith, d)
@@ -73,8 +65,9 @@ insert-has t m i h = go (digit m i) refl
   where
     d : max (digit m i) (digit (2 ^ t) i) ≡ 1
     d = sym (digit-or m (2 ^ t) i) ∙ eqb→eq _ 1 h
+
     go : (x : ℕ) → digit m i ≡ x → T (has m i) ⊎ (i ≡ t)
-    go zero e = inr (only t i (eq-test (digit (2 ^ t) i) 1 (omega (arith, d))))
+    go zero e = inr (single-only t i (eq-test (digit (2 ^ t) i) 1 (omega (arith, d))))
     go (suc x) e = inl (eq-test (digit m i) 1 (omega (arith, digit-small m i)))
 
 pub has-insert : (t m i : ℕ) → T (has m i) → T (has (insert t m) i)
@@ -88,10 +81,13 @@ has-below n i l = eq-test (digit (2 ^ n - 1) i) 1 e
     -- the ones above place i, and those below it
     q : 2 ^ n - 1 ≡ (2 ^ (n - i) - 1) * 2 ^ i + (2 ^ i - 1)
     q = ap (λ (x : ℕ). 2 ^ x - 1) (omega arith) ∙ ones-split (n - i) i
+
     h : (2 ^ n - 1) / 2 ^ i ≡ 2 ^ (n - i) - 1
     h = rw q (high _ i (ones-lt i))
+
     p : 2 ^ (n - i) ≡ 2 ^ (n - suc i) * 2
     p = ap (λ (x : ℕ). 2 ^ x) (omega arith) ∙ pow-suc 2 (n - suc i)
+
     e : digit (2 ^ n - 1) i ≡ 1
     e = rw h (omega (arith, p, pow-pos (n - suc i)))
 
@@ -131,3 +127,55 @@ module _ (m : ℕ) (p : 0 < m) (l : m < 2 ^ 64) where
           let f : 2 ^ j ≤ m = has-large m j h in
           let u : 2 ^ suc (top .0) ≤ 2 ^ j = pow-mono (omega (arith, highest-top)) in
           omega (arith, top .3)
+
+-- ---- the lowest number
+
+-- the n lowest digits hold what the set holds below n
+has-low : (n m i : ℕ) → i < n → has (m % 2 ^ n) i ≡ has m i
+has-low n m i l =
+    let e : digit (below n) i ≡ 1 = eqb→eq _ 1 (has-below n i l) in
+    let d : digit (m % 2 ^ n) i ≡ digit m i = rw (← and-mask m n) (omega (arith, digit-and m (below n) i, digit-small m i)) in
+    ap (λ (x : ℕ). eqb x 1) d
+
+-- the zeros below the lowest digit that is set, and that digit
+trailing-low : (k m : ℕ) → 0 < m → m < 2 ^ k → m % 2 ^ suc (trailingZeros k m) ≡ 2 ^ trailingZeros k m
+unfolding trailingZeros
+trailing-low zero m p l = absurd (omega arith)
+trailing-low (suc k) m p l = go (m % 2) refl (λ e. trailing-low k (m / 2) (omega arith) (let q = pow-suc 2 k in omega arith))
+  where
+    t : ℕ
+    t = trailingZeros k (m / 2)
+
+    go : (r : ℕ) → m % 2 ≡ r → (m % 2 ≡ 0 → m / 2 % 2 ^ suc t ≡ 2 ^ t) → m % 2 ^ suc (under r t) ≡ 2 ^ under r t
+    go zero e h =
+        let s : m % 2 ^ (suc t + 1) ≡ m / 2 % 2 ^ suc t * 2 + m % 2 = mod-pow-add m (suc t) 1 in
+        ap (λ (x : ℕ). m % 2 ^ x) (sym (add-one (suc t))) ∙ (omega (arith, s, h e, pow-suc 2 t))
+    go (suc r) e h = omega arith
+
+module _ (m : ℕ) (p : 0 < m) (l : m < 2 ^ 64) where
+  -- up to its lowest number a set is that number alone
+  pub lowest-low : m % 2 ^ suc (lowest m) ≡ single (lowest m)
+  unfolding lowest
+  lowest-low = trailing-low 64 m p l
+
+  has-up-to : (i : ℕ) → i ≤ lowest m → has m i ≡ has (single (lowest m)) i
+  has-up-to i h = sym (has-low (suc (lowest m)) m i (omega arith)) ∙ ap (λ (x : ℕ). has x i) lowest-low
+
+  pub has-lowest : T (has m (lowest m))
+  has-lowest = rw (has-up-to (lowest m) (omega arith)) (single-has (lowest m))
+
+  pub lowest-least : (j : ℕ) → T (has m j) → lowest m ≤ j
+  lowest-least j h = go (decLe j (lowest m))
+    where
+      go : Dec (j ≤ lowest m) → lowest m ≤ j
+      go (yes x) = let e : j ≡ lowest m = single-only (lowest m) j (rw (has-up-to j x) at h) in omega arith
+      go (no n) = omega arith
+
+  pub lowest-word : lowest m < 64
+  lowest-word = has-lt 64 m (lowest m) l has-lowest
+
+-- ---- how many
+
+pub size-word : (m : ℕ) → m < 2 ^ 64 → size m ≤ 64
+unfolding size
+size-word = ones-le 64

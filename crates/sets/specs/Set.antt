@@ -3,8 +3,8 @@
 use Prim.Native.Nat.{ℕ, _-_, _/_, _%_, _^_}
 use mathlib.Core.Bool.{Bool}
 use lib.Dec.{eqb}
-use lib.Bits.{bitOr}
-use lib.Count.{leadingZeros}
+use lib.Bits.{bitAnd, bitOr, bitXor}
+use lib.Count.{leadingZeros, trailingZeros, ones}
 
 -- a set, as the number that its bits make
 abbrev pub Set : Type 0
@@ -22,6 +22,18 @@ has m i = eqb (m / 2 ^ i % 2) 1
 abbrev pub insert : ℕ → Set → Set
 insert i m = bitOr m (2 ^ i)
 
+-- the set of i alone
+abbrev pub single : ℕ → Set
+single i = 2 ^ i
+
+-- what either set holds
+unfoldable pub union : Set → Set → Set
+union a b = bitOr a b
+
+-- what the first set holds and the second does not: the first less what both hold
+unfoldable pub without : Set → Set → Set
+without a b = bitXor a (bitAnd a b)
+
 -- all numbers below n
 abbrev pub below : ℕ → Set
 below n = 2 ^ n - 1
@@ -29,3 +41,11 @@ below n = 2 ^ n - 1
 -- "the highest set bit of its mask" (01, Store and views)
 unfoldable pub highest : Set → ℕ
 highest m = 63 - leadingZeros 64 m
+
+-- the least number that the set holds
+unfoldable pub lowest : Set → ℕ
+lowest m = trailingZeros 64 m
+
+-- how many numbers the set holds: "ones count readers" (01, Which shape goes where)
+unfoldable pub size : Set → ℕ
+size m = ones m

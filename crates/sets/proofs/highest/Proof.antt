@@ -1,0 +1,19 @@
+-- `sets::highest` meets its contract. Assumes nothing.
+use native.Mathlib.Omega.{arith}
+use lib.Count.{leading-le, leading-top}
+use Rattle.sets.specs.Set.{highest}
+use Rattle.sets.proofs.highest.Statement.{statement}
+use Rattle.sets.proofs.highest.Tie as tie
+
+cast-result : tie.Need-cast-result
+cast-result c = omega (arith, leading-le 64 (c .args .m))
+
+sub-result : tie.Need-sub-result
+sub-result c = omega (arith, leading-top 64 (c .args .m) (c .pre) (c .fits .m .fits) .1)
+
+returns : tie.Need-returns
+unfolding highest
+returns c = omega arith
+
+pub highest-spec : {M : Type 1} → statement M
+highest-spec = tie.close (tie.spec cast-result sub-result returns)
