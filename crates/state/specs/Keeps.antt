@@ -6,12 +6,14 @@ use mathlib.Core.Logic.{_⊎_, _↔_}
 use mathlib.Core.List.{List}
 use lib.Dec.{T}
 use lib.ListN.{length, getD}
+use Rattle.search.specs.Choose.{when}
 use Rattle.sets.specs.Set.{Set, has, below}
 use Rattle.relations.specs.Relation.{ThenMaybe}
 use Rattle.dependencies.specs.History.{Stored, Holds, PrefixStep, SnapshotStep}
 use Rattle.dependencies.specs.History as D
 use Rattle.store.specs.Limits.{maxKeys, maxClients}
-use Rattle.store.specs.Store.{Key, CommitNumber, Client, SessionNumber, View, Store, Configuration, count, version, nextNumber}
+use Rattle.store.specs.Store.{Key, CommitNumber, Client, SessionNumber, View, Store, Configuration, count, version, nextNumber, read, write, Commit}
+use Rattle.store.specs.Update.{valueOf}
 use Rattle.store.proofs.Updated.{Wrote, Read}
 use Rattle.store.proofs.Links.{history, held}
 use Rattle.state.specs.Places.{perKey, numbers, headPlace, readersPlace, fullPlace, writersPlace, viewPlace, commitsPlace, drawnPlace, barPlace, logPlace, beforePlace, readPlace, linkPlace, leadPlace, packed}
@@ -90,6 +92,20 @@ pub record KeepsLinks (s : Store) (links : List ℕ) : Type 0 where
   pub steps : (kind : ℕ) → kind < 2 → (t : CommitNumber) → t < numbers → IsSet (getD links (linkPlace kind t) 0) (λ a. Step kind s a t)
   pub leads : (kind : ℕ) → kind < 2 → (k : Key) → k < s .keys
       → IsSet (getD links (leadPlace kind k) 0) (λ a. (r : ℕ) × ReadKey s k r × FirstLink kind s a r)
+
+-- ---- the record at hand
+
+-- the masks of a record
+pub record KeepsMasks (keys : ℕ) (u : View) (fresh : List ℕ) : Type 0 where
+  pub room : length fresh ≡ maxKeys
+  pub masks : (k : Key) → k < keys → getD fresh k 0 ≡ u k
+
+-- the operations of a commit, by rank: twice the key for a read, one more for a write
+pub record KeepsOperations (c : Commit) (ranks : Set) (values : List ℕ) : Type 0 where
+  pub room : length values ≡ 2 * maxKeys
+  pub reads : (k : Key) → valueOf read (c .operations) k ≡ when (has ranks (2 * k)) (getD values (2 * k) 0)
+  pub writes : (k : Key) → valueOf write (c .operations) k ≡ when (has ranks (2 * k + 1)) (getD values (2 * k + 1) 0)
+  pub value-fits : (r : ℕ) → getD values r 0 < 2 ^ 32
 
 -- ---- all of them
 
