@@ -1,11 +1,11 @@
 -- Laws of sets in a word. Callers reach `has`, `insert`, `below` and `highest` through these. Assumes nothing.
 use mathlib.Core.Path.{_≡_, refl, sym, ap, _∙_, subst}
 use mathlib.Core.Bool.{Bool}
-use mathlib.Core.Logic.{_⊎_, inl, inr}
+use mathlib.Core.Logic.{_⊎_, inl, inr, _↔_}
 use Prim.Native.Nat.{ℕ, zero, suc, _+_, _-_, _*_, _/_, _%_, _^_, _≤_, _<_, max}
-use native.Mathlib.Nat.{div-eq-of-lt, mul-div-cancel, div-eq-of-lt-le, pow-suc}
+use native.Mathlib.Nat.{div-eq-of-lt, mul-div-cancel, div-eq-of-lt-le, one-mul, div-div-eq-div-mul, pow-suc, pow-succ'}
 use native.Mathlib.Omega.{arith}
-use native.Mathlib.Decide.{decLt, decLe}
+use native.Mathlib.Decide.{ℕ-discrete, decLt, decLe}
 use lib.Dec.{T, eqb, eqb→eq}
 use lib.Arith.{digits-mod}
 use lib.Bits.{bitOr, or-shr, or-step}
@@ -80,6 +80,14 @@ insert-has t m i h = go (digit m i) refl
 pub has-insert : (t m i : ℕ) → T (has m i) → T (has (insert t m) i)
 has-insert t m i h = eq-test _ 1 (digit-or m (2 ^ t) i ∙ (let e : digit m i ≡ 1 = eqb→eq _ 1 h in omega (arith, digit-small (2 ^ t) i)))
 
+-- the number itself is in it then
+pub insert-self : (t m : ℕ) → T (has (insert t m) t)
+insert-self t m = eq-test _ 1 (digit-or m (2 ^ t) t ∙ omega (arith, single, digit-small m t))
+  where
+    -- a single number stands in its own place
+    single : digit (2 ^ t) t ≡ 1
+    single = ap (λ (x : ℕ). x % 2) (ap (λ (x : ℕ). x / 2 ^ t) (sym (one-mul (2 ^ t))) ∙ mul-div-cancel 1 (pow-pos t))
+
 -- ---- all numbers below n
 
 pub has-below : (n i : ℕ) → i < n → T (has (below n) i)
@@ -122,6 +130,10 @@ module _ (m : ℕ) (p : 0 < m) (l : m < 2 ^ 64) where
       let q : m / 2 ^ (top .0) ≡ 1 = div-eq-of-lt-le (2 ^ (top .0)) (omega (arith, top .2)) (omega arith) in
       rw highest-top (eq-test (digit m (top .0)) 1 (omega arith))
 
+  -- and so large only
+  highest-large : m < 2 ^ suc (highest m)
+  highest-large = rw highest-top (top .3)
+
   pub highest-most : (j : ℕ) → T (has m j) → j ≤ highest m
   highest-most j h = go (decLe j (highest m))
     where
@@ -131,3 +143,46 @@ module _ (m : ℕ) (p : 0 < m) (l : m < 2 ^ 64) where
           let f : 2 ^ j ≤ m = has-large m j h in
           let u : 2 ^ suc (top .0) ≤ 2 ^ j = pow-mono (omega (arith, highest-top)) in
           omega (arith, top .3)
+
+-- ---- sets by their members
+
+-- a word that holds only numbers below n is below 2 ^ n
+pub members-below : (n m : ℕ) → m < 2 ^ 64 → ((i : ℕ) → T (has m i) → i < n) → m < 2 ^ n
+members-below n m l h = go (decLt 0 m)
+  where
+    go : Dec (0 < m) → m < 2 ^ n
+    go (no z) = omega (arith, pow-pos n)
+    go (yes p) =
+        let b : highest m < n = h (highest m) (has-highest m p l) in
+        let q : 2 ^ suc (highest m) ≤ 2 ^ n = pow-mono (omega arith) in
+        omega (arith, highest-large m p l)
+
+-- the set without its first place
+has-half : (m i : ℕ) → has (m / 2) i ≡ has m (suc i)
+has-half m i = ap (λ (x : ℕ). eqb (x % 2) 1) (div-div-eq-div-mul m 2 (2 ^ i) ∙ ap (λ (x : ℕ). m / x) (sym (pow-succ' 2 i)))
+
+-- sets of numbers below n with the same members are the same
+pub same-members : (n m m′ : ℕ) → m < 2 ^ n → m′ < 2 ^ n → ((i : ℕ) → i < n → T (has m i) ↔ T (has m′ i)) → m ≡ m′
+same-members zero m m′ l l′ h = omega arith
+same-members (suc n) m m′ l l′ h =
+    let p : 2 ^ suc n ≡ 2 ^ n * 2 = pow-suc 2 n in
+    let e : m / 2 ≡ m′ / 2 = same-members n (m / 2) (m′ / 2) (omega arith) (omega arith) (λ i k. rw (has-half m i, has-half m′ i) (h (suc i) (omega arith))) in
+    first (h 0 (omega arith)) e
+  where
+    odd : (x : ℕ) → x % 2 ≡ 1 → T (has x 0)
+    odd x e = eq-test (x / 2 ^ 0 % 2) 1 (omega arith)
+    is-odd : (x : ℕ) → T (has x 0) → x % 2 ≡ 1
+    is-odd x t = let e : x / 2 ^ 0 % 2 ≡ 1 = eqb→eq _ 1 t in omega arith
+    first : T (has m 0) ↔ T (has m′ 0) → m / 2 ≡ m′ / 2 → m ≡ m′
+    first b e = go (ℕ-discrete (m % 2) 1) (ℕ-discrete (m′ % 2) 1)
+      where
+        go : Dec (m % 2 ≡ 1) → Dec (m′ % 2 ≡ 1) → m ≡ m′
+        go (yes x) y = let z : m′ % 2 ≡ 1 = is-odd m′ (b .0 (odd m x)) in omega arith
+        go (no x) (yes y) = absurd (x (is-odd m (b .1 (odd m′ y))))
+        go (no x) (no y) = omega arith
+
+-- a set is all numbers below n exactly where these are its members
+pub below-is : (n m : ℕ) → m < 2 ^ 64 → ((i : ℕ) → T (has m i) → i < n) → (m ≡ below n) ↔ ((i : ℕ) → i < n → T (has m i))
+below-is n m l h =
+    ( λ e i k. subst (λ (x : ℕ). T (has x i)) (sym e) (has-below n i k)
+    , λ f. same-members n m (below n) (members-below n m l h) (below-small n) (λ i k. (λ t. has-below n i k, λ t. f i k)) )
