@@ -1,3 +1,4 @@
 pub mod Made
 pub mod Ordered
 pub mod Links
+pub mod Steps
