@@ -2,3 +2,4 @@ pub mod Made
 pub mod Ordered
 pub mod Links
 pub mod Steps
+pub mod Views
