@@ -1,0 +1,5 @@
+pub mod Made
+pub mod Ordered
+pub mod Links
+pub mod Steps
+pub mod Views

@@ -1,0 +1,99 @@
+-- A view as the set of commits of which it holds a version. As it holds all or none of a writer, this set says which versions it holds; and a commit leaves
+-- the set of each view as it is, but for itself in a view to which its own versions are added. Assumes nothing.
+use mathlib.Core.Path.{_≡_, refl, sym, ap, _∙_, subst}
+use mathlib.Core.Logic.{_⊎_, inl, inr, _↔_, _≢_}
+use Prim.Native.Nat.{ℕ, suc, _^_, _≤_, _<_}
+use native.Mathlib.Omega.{arith}
+use lib.Dec.{T}
+use Rattle.search.proofs.Tests.{T?}
+use Rattle.sets.specs.Set.{has, below}
+use Rattle.sets.proofs.Laws.{has-below, below-has}
+use Rattle.dependencies.specs.History.{History, Holds}
+use Rattle.store.specs.Store.{Key, VersionNumber, CommitNumber, View, Store, count, version, nextNumber, Commit}
+use Rattle.store.specs.Update.{writes, update}
+use Rattle.store.proofs.Updated.{Wrote, count-update, wrote-update, wrote-stays, wrote-new, count-written}
+use Rattle.store.proofs.Sound.{IsView, SoundStore, FitsView, wrote-old}
+use Rattle.store.proofs.Links.{history, held}
+use Rattle.growth.proofs.Made.{Made, Writer, Writes, wrote-after, stored-not-new, new-not-stored}
+
+-- t wrote something, and the view holds none of it
+abbrev pub Lacking : Store → View → CommitNumber → Type 0
+Lacking s v t = Writer (history s) t × (¬ Holds (history s) (held v) t)
+
+-- the view holds every version of the store
+abbrev pub Full : Store → View → Type 0
+Full s v = (k i : ℕ) → i < count s k → T (has (v k) i)
+
+-- ---- in one store
+
+module _ (s : Store) (v : View) (w : IsView s v) where
+  -- a view holds a version exactly where it holds one by its writer
+  pub held-view : (k i : ℕ) → T (has (v k) i) ↔ ((i < count s k) × Holds (history s) (held v) (version s k i .writer))
+  held-view k i =
+      ( λ h. let l = w .exist k i h in (l, (k, i, h, (l, refl)))
+      , λ (l, (k′, i′, h, x)). w .whole (version s k i .writer) k′ i′ k i h x (l, refl) )
+
+  -- it holds every version by t where it holds one, and else none
+  pub held-writer : (t k i : ℕ) → Wrote s t k i → T (has (v k) i) ↔ Holds (history s) (held v) t
+  held-writer t k i x = (λ h. (k, i, h, x), λ (k′, i′, h, y). w .whole t k′ i′ k i h y x)
+
+  -- a version that the view lacks exists exactly where it lacks a commit
+  pub lacks-version : ((k : Key) × (i : VersionNumber) × (i < count s k) × (¬ T (has (v k) i))) ↔ ((t : CommitNumber) × Lacking s v t)
+  lacks-version =
+      ( λ (k, i, l, n). (version s k i .writer, ((k, (i, (l, refl))), λ h. n (held-view k i .1 (l, h))))
+      , λ (t, ((k, (i, x)), n)). (k, i, x .0, λ h. n (k, i, h, x)) )
+
+-- a full view holds exactly the writers of the store
+pub full-holds : (s : Store) (v : View) → Full s v → (t : CommitNumber) → Holds (history s) (held v) t ↔ Writer (history s) t
+full-holds s v f t = (λ (k, i, h, x). (k, (i, x)), λ (k, (i, x)). (k, i, f k i (x .0), x))
+
+-- ---- a view that grows holds what it held, and the writers of what it gained
+
+pub holds-gained : (s : Store) (v v′ : View) → ((k i : ℕ) → T (has (v k) i) → T (has (v′ k) i)) → (t : CommitNumber)
+    → Holds (history s) (held v′) t ↔ (Holds (history s) (held v) t ⊎ ((k : Key) × (i : VersionNumber) × T (has (v′ k) i) × (¬ T (has (v k) i)) × Wrote s t k i))
+holds-gained s v v′ grows t = (λ (k, i, h, x). out k i h x (T? (has (v k) i)), back)
+  where
+    out : (k i : ℕ) → T (has (v′ k) i) → Wrote s t k i → Dec (T (has (v k) i))
+        → Holds (history s) (held v) t ⊎ ((k : Key) × (i : VersionNumber) × T (has (v′ k) i) × (¬ T (has (v k) i)) × Wrote s t k i)
+    out k i h x (yes y) = inl (k, i, y, x)
+    out k i h x (no n) = inr (k, i, h, n, x)
+    back : Holds (history s) (held v) t ⊎ ((k : Key) × (i : VersionNumber) × T (has (v′ k) i) × (¬ T (has (v k) i)) × Wrote s t k i) → Holds (history s) (held v′) t
+    back (inl (k, i, h, x)) = (k, i, grows k i h, x)
+    back (inr (k, i, h, _, x)) = (k, i, h, x)
+
+-- ---- after a commit
+
+-- the view v′ is v and the versions that the commit wrote
+abbrev pub WithOwn : Store → Commit → View → View → Type 0
+WithOwn s c v v′ = (k i : ℕ) → T (has (v′ k) i) ↔ (T (has (v k) i) ⊎ (T (writes c k) × (i ≡ count s k)))
+
+module _ (s : Store) (u : View) (c : Commit) (m : Made s u c) (v : View) (w : IsView s v) where
+  abbrev H : History
+  H = history s
+
+  abbrev H′ : History
+  H′ = history (update s u c)
+
+  abbrev me : CommitNumber
+  me = nextNumber s
+
+  -- a view of the store before holds the same commits after
+  pub holds-kept : (t : CommitNumber) → Holds H′ (held v) t ↔ Holds H (held v) t
+  holds-kept t = (λ (k, i, h, x). out k i h (wrote-after s u c m t k i .0 x), λ (k, i, h, x). (k, i, h, wrote-after s u c m t k i .1 (inl x)))
+    where
+      out : (k i : ℕ) → T (has (v k) i) → Wrote s t k i ⊎ ((t ≡ me) × T (writes c k) × (i ≡ count s k)) → Holds H (held v) t
+      out k i h (inl x) = (k, i, h, x)
+      out k i h (inr (_, _, e)) = let l : i < count s k = w .exist k i h in absurd (omega arith)
+
+  -- with the commit's own versions it holds the commit too, if that writes something
+  pub holds-own : (v′ : View) → WithOwn s c v v′ → (t : CommitNumber) → Holds H′ (held v′) t ↔ (Holds H (held v) t ⊎ ((t ≡ me) × Writes c))
+  holds-own v′ is t = (λ (k, i, h, x). out k i (is k i .0 h) (wrote-after s u c m t k i .0 x), back)
+    where
+      out : (k i : ℕ) → T (has (v k) i) ⊎ (T (writes c k) × (i ≡ count s k)) → Wrote s t k i ⊎ ((t ≡ me) × T (writes c k) × (i ≡ count s k))
+          → Holds H (held v) t ⊎ ((t ≡ me) × Writes c)
+      out k i (inl h) (inl x) = inl (k, i, h, x)
+      out k i (inr (_, e)) (inl x) = let l : i < count s k = x .0 in absurd (omega arith)
+      out k i h (inr (e, y, _)) = inr (e, (k, y))
+      back : Holds H (held v) t ⊎ ((t ≡ me) × Writes c) → Holds H′ (held v′) t
+      back (inl (k, i, h, x)) = (k, i, is k i .1 (inl h), wrote-after s u c m t k i .1 (inl x))
+      back (inr (e, (k, y))) = (k, count s k, is k (count s k) .1 (inr (y, refl)), wrote-after s u c m t k (count s k) .1 (inr (e, y, refl)))
