@@ -4,17 +4,18 @@ use mathlib.Core.Path.{_≡_, refl, sym, ap, _∙_, subst}
 use mathlib.Core.Logic.{_⊎_, inl, inr, _↔_, _≢_}
 use Prim.Native.Nat.{ℕ, suc, _^_, _≤_, _<_}
 use native.Mathlib.Omega.{arith}
+use native.Mathlib.Decide.{decLt}
 use lib.Dec.{T}
 use Rattle.search.proofs.Tests.{T?}
 use Rattle.sets.specs.Set.{has, below}
-use Rattle.sets.proofs.Laws.{has-below, below-has}
+use Rattle.sets.proofs.Laws.{has-none, has-below, below-has, below-is}
 use Rattle.dependencies.specs.History.{History, Holds}
 use Rattle.store.specs.Store.{Key, VersionNumber, CommitNumber, View, Store, count, version, nextNumber, Commit}
 use Rattle.store.specs.Update.{writes, update}
-use Rattle.store.proofs.Updated.{Wrote, count-update, wrote-update, wrote-stays, wrote-new, count-written}
-use Rattle.store.proofs.Sound.{IsView, SoundStore, FitsView, wrote-old}
+use Rattle.store.proofs.Updated.{Wrote, count-update, count-written}
+use Rattle.store.proofs.Sound.{IsView, SoundStore, FitsView}
 use Rattle.store.proofs.Links.{history, held}
-use Rattle.growth.proofs.Made.{Made, Writer, Writes, wrote-after, stored-not-new, new-not-stored}
+use Rattle.growth.proofs.Made.{Made, Writer, Writes, wrote-after}
 
 -- t wrote something, and the view holds none of it
 abbrev pub Lacking : Store → View → CommitNumber → Type 0
@@ -46,6 +47,28 @@ module _ (s : Store) (v : View) (w : IsView s v) where
 -- a full view holds exactly the writers of the store
 pub full-holds : (s : Store) (v : View) → Full s v → (t : CommitNumber) → Holds (history s) (held v) t ↔ Writer (history s) t
 full-holds s v f t = (λ (k, i, h, x). (k, (i, x)), λ (k, (i, x)). (k, i, f k i (x .0), x))
+
+-- the masks of a full view
+pub full-mask : (s : Store) (v : View) → IsView s v → Full s v ↔ ((k : Key) → v k ≡ below (count s k))
+full-mask s v w =
+    ( λ f k. below-is (count s k) (v k) (w .word k) (w .exist k) .1 (f k)
+    , λ e k. below-is (count s k) (v k) (w .word k) (w .exist k) .0 (e k) )
+
+-- and such masks are a view
+pub full-view : (s : Store) → SoundStore s → (v : View) → FitsView (s .keys) v → ((k : Key) → k < s .keys → v k ≡ below (count s k)) → IsView s v
+full-view s h v f e = record {
+  word = f .word;
+  beyond = f .beyond;
+  opened = λ k l. holds k 0 (h .some-version k l);
+  exist = λ k i x. there k i x (decLt k (s .keys));
+  whole = λ t k i l j x y z. holds l j (z .0)
+}
+  where
+    holds : (k i : ℕ) → i < count s k → T (has (v k) i)
+    holds k i l = subst (λ (x : ℕ). T (has x i)) (sym (e k (h .only-keys k i l))) (has-below (count s k) i l)
+    there : (k i : ℕ) → T (has (v k) i) → Dec (k < s .keys) → i < count s k
+    there k i x (yes l) = below-has (count s k) i (subst (λ (y : ℕ). T (has y i)) (e k l) x)
+    there k i x (no n) = absurd (has-none i (subst (λ (y : ℕ). T (has y i)) (f .beyond k (omega arith)) x))
 
 -- ---- a view that grows holds what it held, and the writers of what it gained
 
@@ -97,3 +120,24 @@ module _ (s : Store) (u : View) (c : Commit) (m : Made s u c) (v : View) (w : Is
       back : Holds H (held v) t ⊎ ((t ≡ me) × Writes c) → Holds H′ (held v′) t
       back (inl (k, i, h, x)) = (k, i, is k i .1 (inl h), wrote-after s u c m t k i .1 (inl x))
       back (inr (e, (k, y))) = (k, count s k, is k (count s k) .1 (inr (y, refl)), wrote-after s u c m t k (count s k) .1 (inr (e, y, refl)))
+
+  -- and it is a view of the store after
+  pub own-view : (v′ : View) → FitsView (s .keys) v′ → WithOwn s c v v′ → IsView (update s u c) v′
+  unfolding update
+  own-view v′ f is = record {
+    word = f .word;
+    beyond = f .beyond;
+    opened = λ k l. is k 0 .1 (inl (w .opened k l));
+    exist = λ k i h. there k i (is k i .0 h);
+    whole = λ t k i l j h x y. all t k i l j (is k i .0 h) (wrote-after s u c m t k i .0 x) (wrote-after s u c m t l j .0 y)
+  }
+    where
+      there : (k i : ℕ) → T (has (v k) i) ⊎ (T (writes c k) × (i ≡ count s k)) → i < count (update s u c) k
+      there k i (inl h) = let l : i < count s k = w .exist k i h in omega (arith, count-update s u c k)
+      there k i (inr (y, e)) = omega (arith, count-written s u c k y)
+      all : (t k i l j : ℕ) → T (has (v k) i) ⊎ (T (writes c k) × (i ≡ count s k)) → Wrote s t k i ⊎ ((t ≡ me) × T (writes c k) × (i ≡ count s k))
+          → Wrote s t l j ⊎ ((t ≡ me) × T (writes c l) × (j ≡ count s l)) → T (has (v′ l) j)
+      all t k i l j h x (inr (_, y, e)) = is l j .1 (inr (y, e))
+      all t k i l j (inl h) (inl x) (inl y) = is l j .1 (inl (w .whole t k i l j h x y))
+      all t k i l j (inr (_, e)) (inl x) (inl y) = let n : i < count s k = x .0 in absurd (omega arith)
+      all t k i l j h (inr (e, _, _)) (inl y) = let n : t < nextNumber s = m .sound .writers t l j y in absurd (omega arith)
