@@ -4,6 +4,7 @@ use mathlib.Core.Path.{_≡_, refl, sym, ap, _∙_, subst}
 use mathlib.Core.Bool.{Bool, _&&_, not}
 use mathlib.Core.Logic.{_⊎_, inl, inr, _↔_}
 use Prim.Native.Nat.{ℕ, _<_}
+use native.Mathlib.Omega.{arith}
 use lib.Dec.{T}
 use Rattle.search.specs.Search.{any}
 use Rattle.search.proofs.Tests.{and-is, not-is, eq-is, stable}
@@ -62,6 +63,11 @@ module _ (s : Store) (u : View) (v : IsView s u) where
 
   pub snapshot-isolation-is : SnapshotIsolation (history s) (held u) ↔ (¬ LacksOneOf s u (LeadsToHeld s u (Plus (SnapshotStep (history s)))))
   snapshot-isolation-is = closed-is (Plus (SnapshotStep (history s)))
+
+  -- where links rise, as in clauses 3 and 4, nothing is lacking if every commit that is held is below every one that is lacking
+  pub rising-passes : (R : ℕ → ℕ → Type 0) → ((a t : CommitNumber) → R a t → a < t) → ((a t : CommitNumber) → Holds (history s) (held u) t → Lacking s u a → t < a)
+      → ¬ LacksOneOf s u (LeadsToHeld s u R)
+  rising-passes R rises all (a, (t, h, r), x) = let l : a < t = rises a t r in let l′ : t < a = all a t h x in omega arith
 
   -- clause 4: what was read up to a commit that is held was written by commits that are held
   pub write-follows-reads-is : WriteFollowsReads (history s) (held u) ↔ (¬ LacksOneOf s u (LeadsToHeld s u (ReadUpTo (history s))))

@@ -13,7 +13,7 @@ use Rattle.dependencies.specs.History.{History, Stored, as-writer, as-reader}
 use Rattle.store.specs.Store.{Key, VersionNumber, CommitNumber, Client, View, Store, Configuration, count, version, nextNumber, Commit}
 use Rattle.store.specs.Update.{reads, writes, newest, update, viewBefore}
 use Rattle.store.proofs.Updated.{Wrote, Read, at-same, at-other, wrote-update-is, read-update-is}
-use Rattle.store.proofs.Sound.{IsView, SoundStore, Sound, Appears, FitsCommit, LegalCommit}
+use Rattle.store.proofs.Sound.{IsView, SoundStore, Sound, Appears, FitsCommit, LegalCommit, sound-update}
 use Rattle.store.proofs.Links.{history, appears-stored, stored-below}
 
 -- commit c can be made on view u of store s
@@ -63,6 +63,17 @@ module _ (s : Store) (u : View) (c : Commit) (m : Made s u c) where
 
   abbrev me : CommitNumber
   me = nextNumber s
+
+  pub keys-after : update s u c .keys ≡ s .keys
+  unfolding update
+  keys-after = refl
+
+  pub number-after : nextNumber (update s u c) ≡ suc me
+  unfolding update
+  number-after = refl
+
+  pub sound-after : SoundStore (update s u c)
+  sound-after = sound-update s u c (m .sound) (m .fits .read-keys) (m .fits .write-keys)
 
   -- the version that the commit reads is there
   pub read-exists : (k : Key) → T (reads c k) → newest u k < count s k

@@ -3,12 +3,14 @@
 use mathlib.Core.Path.{_≡_, refl, sym, ap, _∙_, subst}
 use mathlib.Core.Logic.{_⊎_, inl, inr, _↔_, _≢_}
 use Prim.Native.Nat.{ℕ, _<_}
-use lib.Dec.{T}
+use native.Mathlib.Omega.{arith}
 use Rattle.dependencies.specs.History.{History, Stored, as-reader, SO, session-order, WR, write-read}
 use Rattle.store.specs.Store.{CommitNumber, Client, View, Store, nextNumber, Commit}
 use Rattle.store.specs.Update.{update}
+use Rattle.store.proofs.Sound.{SoundStore}
 use Rattle.store.proofs.Links.{history}
 use Rattle.growth.proofs.Made.{Made, CommitBy, Operates, stored-not-new, commit-by-after}
+use Rattle.growth.proofs.Ordered.{Ordered, SO-rises, WR-rises}
 use Rattle.growth.proofs.Links.{FromSession, FromRead, SO-after, WR-after}
 
 -- a wrote a version that a commit of client d read
@@ -18,6 +20,11 @@ ReadByClient H d a = (r : CommitNumber) × CommitBy H d r × WR H a r
 -- a wrote a version that was "read by t or by a t' with t' SO t"
 abbrev pub ReadUpTo : History → CommitNumber → CommitNumber → Type 0
 ReadUpTo H a t = (r : CommitNumber) × ((r ≡ t) ⊎ SO H r t) × WR H a r
+
+-- such an a has a smaller number than t
+pub read-up-to-rises : (s : Store) → SoundStore s → Ordered s → (a t : CommitNumber) → ReadUpTo (history s) a t → a < t
+read-up-to-rises s h o a t (r, inl e, w) = let l : a < r = WR-rises s h o a r w in omega arith
+read-up-to-rises s h o a t (r, inr x, w) = let l : a < r = WR-rises s h o a r w in let l′ : r < t = SO-rises s h o r t x in omega arith
 
 module _ (s : Store) (u : View) (c : Commit) (m : Made s u c) where
   abbrev H : History

@@ -15,7 +15,8 @@ use Rattle.store.specs.Update.{writes, update}
 use Rattle.store.proofs.Updated.{Wrote, count-update, count-written}
 use Rattle.store.proofs.Sound.{IsView, SoundStore, FitsView}
 use Rattle.store.proofs.Links.{history, held}
-use Rattle.growth.proofs.Made.{Made, Writer, Writes, wrote-after}
+use Rattle.growth.proofs.Made.{Made, WriterOf, Writer, Writes, wrote-after, writer-after}
+use Rattle.growth.proofs.Ordered.{Ordered, writes-once}
 
 -- t wrote something, and the view holds none of it
 abbrev pub Lacking : Store → View → CommitNumber → Type 0
@@ -48,6 +49,10 @@ module _ (s : Store) (v : View) (w : IsView s v) where
 pub full-holds : (s : Store) (v : View) → Full s v → (t : CommitNumber) → Holds (history s) (held v) t ↔ Writer (history s) t
 full-holds s v f t = (λ (k, i, h, x). (k, (i, x)), λ (k, (i, x)). (k, i, f k i (x .0), x))
 
+-- the opening transaction is not lacking, as a view holds version 0 of each key
+pub opening-not-lacking : (s : Store) → SoundStore s → Ordered s → (v : View) → IsView s v → ¬ Lacking s v 0
+opening-not-lacking s h o v w ((k, (i, x)), n) = let l = h .only-keys k i (x .0) in n (k, 0, w .opened k l, o .first-by-opening k l)
+
 -- the masks of a full view
 pub full-mask : (s : Store) (v : View) → IsView s v → Full s v ↔ ((k : Key) → v k ≡ below (count s k))
 full-mask s v w =
@@ -70,21 +75,49 @@ full-view s h v f e = record {
     there k i x (yes l) = below-has (count s k) i (subst (λ (y : ℕ). T (has y i)) (e k l) x)
     there k i x (no n) = absurd (has-none i (subst (λ (y : ℕ). T (has y i)) (f .beyond k (omega arith)) x))
 
--- ---- a view that grows holds what it held, and the writers of what it gained
+-- ---- a view v that grows to v′
 
+-- v′ holds a version of key k by t that v does not hold
+abbrev pub GainedOf : Store → View → View → Key → CommitNumber → Type 0
+GainedOf s v v′ k t = (i : VersionNumber) × T (has (v′ k) i) × (¬ T (has (v k) i)) × Wrote s t k i
+
+-- it holds the commits that it held, and the writers of what it gained
 pub holds-gained : (s : Store) (v v′ : View) → ((k i : ℕ) → T (has (v k) i) → T (has (v′ k) i)) → (t : CommitNumber)
-    → Holds (history s) (held v′) t ↔ (Holds (history s) (held v) t ⊎ ((k : Key) × (i : VersionNumber) × T (has (v′ k) i) × (¬ T (has (v k) i)) × Wrote s t k i))
+    → Holds (history s) (held v′) t ↔ (Holds (history s) (held v) t ⊎ ((k : Key) × GainedOf s v v′ k t))
 holds-gained s v v′ grows t = (λ (k, i, h, x). out k i h x (T? (has (v k) i)), back)
   where
     out : (k i : ℕ) → T (has (v′ k) i) → Wrote s t k i → Dec (T (has (v k) i))
-        → Holds (history s) (held v) t ⊎ ((k : Key) × (i : VersionNumber) × T (has (v′ k) i) × (¬ T (has (v k) i)) × Wrote s t k i)
+        → Holds (history s) (held v) t ⊎ ((k : Key) × GainedOf s v v′ k t)
     out k i h x (yes y) = inl (k, i, y, x)
-    out k i h x (no n) = inr (k, i, h, n, x)
-    back : Holds (history s) (held v) t ⊎ ((k : Key) × (i : VersionNumber) × T (has (v′ k) i) × (¬ T (has (v k) i)) × Wrote s t k i) → Holds (history s) (held v′) t
+    out k i h x (no n) = inr (k, (i, h, n, x))
+    back : Holds (history s) (held v) t ⊎ ((k : Key) × GainedOf s v v′ k t) → Holds (history s) (held v′) t
     back (inl (k, i, h, x)) = (k, i, grows k i h, x)
-    back (inr (k, i, h, _, x)) = (k, i, h, x)
+    back (inr (k, (i, h, _, x))) = (k, i, h, x)
+
+-- such a view holds all or none of a writer, where v does, exactly where each commit of which it gained a version has gained one of each key that it wrote
+pub whole-gains : (s : Store) → SoundStore s → Ordered s → (v v′ : View) → IsView s v → ((k i : ℕ) → T (has (v k) i) → T (has (v′ k) i))
+    → ((t k i l j : ℕ) → T (has (v′ k) i) → Wrote s t k i → Wrote s t l j → T (has (v′ l) j))
+    ↔ ((t k l : ℕ) → GainedOf s v v′ k t → WriterOf (history s) l t → GainedOf s v v′ l t)
+whole-gains s h o v v′ w grows = (λ f t k l (i, x, n, y) (j, z). (j, f t k i l j x y z, (λ q. n (w .whole t l j k i q z y)), z), λ f t k i l j x y z. back f t k i l j x y z (T? (has (v k) i)))
+  where
+    back : ((t k l : ℕ) → GainedOf s v v′ k t → WriterOf (history s) l t → GainedOf s v v′ l t)
+        → (t k i l j : ℕ) → T (has (v′ k) i) → Wrote s t k i → Wrote s t l j → Dec (T (has (v k) i)) → T (has (v′ l) j)
+    back f t k i l j x y z (yes q) = grows l j (w .whole t k i l j q y z)
+    back f t k i l j x y z (no n) =
+        let g = f t k l (i, x, n, y) (j, z) in
+        subst (λ (a : ℕ). T (has (v′ l) a)) (writes-once s h o t l (g .0) j (g .3) z) (g .1)
 
 -- ---- after a commit
+
+-- a view that was full after commit t
+abbrev pub HoldsUpTo : Store → View → CommitNumber → Type 0
+HoldsUpTo s v t = (a : CommitNumber) → Holds (history s) (held v) a ↔ (Writer (history s) a × (a ≤ t))
+
+-- is so for a full view and the last commit
+pub full-holds-up-to : (s : Store) → SoundStore s → (v : View) → Full s v → HoldsUpTo s v (s .commits)
+full-holds-up-to s h v f a =
+    ( λ x. let w = full-holds s v f a .0 x in let l : a < nextNumber s = h .writers a (w .0) (w .1 .0) (w .1 .1) in (w, omega arith)
+    , λ (w, _). full-holds s v f a .1 w )
 
 -- the view v′ is v and the versions that the commit wrote
 abbrev pub WithOwn : Store → Commit → View → View → Type 0
@@ -107,6 +140,16 @@ module _ (s : Store) (u : View) (c : Commit) (m : Made s u c) (v : View) (w : Is
       out : (k i : ℕ) → T (has (v k) i) → Wrote s t k i ⊎ ((t ≡ me) × T (writes c k) × (i ≡ count s k)) → Holds H (held v) t
       out k i h (inl x) = (k, i, h, x)
       out k i h (inr (_, _, e)) = let l : i < count s k = w .exist k i h in absurd (omega arith)
+
+  -- so a view that was full after an earlier commit remains that
+  pub holds-up-to-kept : (t : CommitNumber) → t < me → HoldsUpTo s v t → HoldsUpTo (update s u c) v t
+  holds-up-to-kept t l is a =
+      ( λ x. let y = is a .0 (holds-kept a .0 x) in (writer-after s u c m a .1 (inl (y .0)), y .1)
+      , λ (x, q). holds-kept a .1 (is a .1 (old q (writer-after s u c m a .0 x), q)) )
+    where
+      old : a ≤ t → Writer H a ⊎ ((a ≡ me) × Writes c) → Writer H a
+      old q (inl x) = x
+      old q (inr (e, _)) = absurd (omega arith)
 
   -- with the commit's own versions it holds the commit too, if that writes something
   pub holds-own : (v′ : View) → WithOwn s c v v′ → (t : CommitNumber) → Holds H′ (held v′) t ↔ (Holds H (held v) t ⊎ ((t ≡ me) × Writes c))
