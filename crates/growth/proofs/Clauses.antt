@@ -1,6 +1,6 @@
 -- Clauses 3 to 8 on sets of commits: a view passes a clause exactly where no commit that the clause wants is lacking, that is, has written something of which the
 -- view holds nothing. Clauses 3, 6 and 7 are one law with the links as a parameter. Assumes nothing.
-use mathlib.Core.Path.{_≡_, refl, sym, ap, _∙_, subst}
+use mathlib.Core.Path.{_≡_, refl, subst}
 use mathlib.Core.Bool.{Bool, _&&_, not}
 use mathlib.Core.Logic.{_⊎_, inl, inr, _↔_}
 use Prim.Native.Nat.{ℕ, _<_}
@@ -12,8 +12,8 @@ use Rattle.search.proofs.Search.{any-is}
 use Rattle.sets.specs.Set.{has, below}
 use Rattle.sets.proofs.Laws.{below-is}
 use Rattle.relations.specs.Relation.{Plus}
-use Rattle.dependencies.specs.History.{History, SO, WR, write-read, PrefixStep, SnapshotStep, Holds, Closed, MonotonicWrites, WriteFollowsReads, UpdateAtomic, ConsistentPrefix, SnapshotIsolation, Serialisable}
-use Rattle.store.specs.Store.{Key, VersionNumber, CommitNumber, View, Store, count, version, nextNumber, Commit}
+use Rattle.dependencies.specs.History.{SO, write-read, PrefixStep, SnapshotStep, Holds, Closed, MonotonicWrites, WriteFollowsReads, UpdateAtomic, ConsistentPrefix, SnapshotIsolation, Serialisable}
+use Rattle.store.specs.Store.{Key, CommitNumber, View, Store, count, version, nextNumber, Commit}
 use Rattle.store.specs.Update.{writes}
 use Rattle.store.specs.Links.{wrote, somewhere, holds}
 use Rattle.store.proofs.Updated.{Wrote, Read}
@@ -23,7 +23,7 @@ use Rattle.store.proofs.Links.{history, held, holds-means}
 use Rattle.growth.proofs.Made.{Writer}
 use Rattle.growth.proofs.Links.{FromWrite}
 use Rattle.growth.proofs.Sessions.{ReadUpTo}
-use Rattle.growth.proofs.Views.{Lacking, Full, held-view, held-writer, full-mask}
+use Rattle.growth.proofs.Views.{Lacking, Full, held-writer}
 
 -- ---- the commits that a clause wants
 

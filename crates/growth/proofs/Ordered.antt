@@ -1,19 +1,19 @@
 -- Commit numbers are in order: along a session, along the versions of a key, and from the writer of a version to its readers. So it is at the opening,
 -- and a commit keeps it; and so SO, WR and WW lead from smaller numbers to larger, and SO is the order of numbers. Assumes nothing.
 use mathlib.Core.Path.{_≡_, refl, sym, ap, _∙_, subst}
-use mathlib.Core.Logic.{_⊎_, inl, inr, _↔_, _≢_}
+use mathlib.Core.Logic.{_⊎_, inl, inr, _↔_}
 use mathlib.Core.List.{List}
-use Prim.Native.Nat.{ℕ, suc, _≤_, _<_}
+use Prim.Native.Nat.{ℕ, _≤_, _<_}
 use native.Mathlib.Omega.{arith}
 use native.Mathlib.Decide.{decLt}
 use lib.Dec.{T}
 use Rattle.relations.specs.Relation.{alone, followed, Plus, one, more}
-use Rattle.dependencies.specs.History.{History, Stored, as-writer, as-reader, SO, session-order, WR, write-read, WW, write-write, RW, read-write, PlainLink, by-SO, by-WR, by-WW, PrefixStep, SnapshotStep}
+use Rattle.dependencies.specs.History.{Stored, SO, session-order, WR, write-read, WW, write-write, RW, read-write, PlainLink, by-SO, by-WR, by-WW, PrefixStep, SnapshotStep}
 use Rattle.dependencies.proofs.Implications.{snapshot-prefix}
-use Rattle.store.specs.Store.{Key, CommitNumber, Client, View, Store, Configuration, openingStore, opening, count, version, nextNumber, Commit, Event, shift, commit}
-use Rattle.store.specs.Update.{reads, writes, newest, update, viewBefore, step, final}
+use Rattle.store.specs.Store.{Key, CommitNumber, View, Store, Configuration, openingStore, opening, count, version, nextNumber, Commit, Event}
+use Rattle.store.specs.Update.{reads, writes, newest, update, step, final}
 use Rattle.store.proofs.Updated.{Wrote, Read, wrote-stays}
-use Rattle.store.proofs.Sound.{SoundStore, Sound, FitsCommit, LegalShift, LegalCommit, opening-unread, sound-opening}
+use Rattle.store.proofs.Sound.{SoundStore, Sound, opening-unread, sound-opening}
 use Rattle.store.proofs.Run.{LegalRun, done, shifts, commits, sound-shifts, sound-commits}
 use Rattle.store.proofs.Links.{history, appears-stored, stored-below}
 use Rattle.growth.proofs.Made.{Made, legal-made, CommitBy, Operates, keys-after, read-exists, wrote-after, read-after, stored-after, stored-not-new, client-kept, client-new, session-kept, session-new}

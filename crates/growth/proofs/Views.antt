@@ -1,21 +1,21 @@
 -- A view as the set of commits of which it holds a version. As it holds all or none of a writer, this set says which versions it holds; and a commit leaves
 -- the set of each view as it is, but for itself in a view to which its own versions are added. Assumes nothing.
-use mathlib.Core.Path.{_≡_, refl, sym, ap, _∙_, subst}
-use mathlib.Core.Logic.{_⊎_, inl, inr, _↔_, _≢_}
-use Prim.Native.Nat.{ℕ, suc, _^_, _≤_, _<_}
+use mathlib.Core.Path.{_≡_, refl, sym, subst}
+use mathlib.Core.Logic.{_⊎_, inl, inr, _↔_}
+use Prim.Native.Nat.{ℕ, _≤_, _<_}
 use native.Mathlib.Omega.{arith}
 use native.Mathlib.Decide.{decLt}
 use lib.Dec.{T}
 use Rattle.search.proofs.Tests.{T?}
 use Rattle.sets.specs.Set.{has, below}
 use Rattle.sets.proofs.Laws.{has-none, has-below, below-has, below-is}
-use Rattle.dependencies.specs.History.{History, Holds}
+use Rattle.dependencies.specs.History.{Holds}
 use Rattle.store.specs.Store.{Key, VersionNumber, CommitNumber, View, Store, count, version, nextNumber, Commit}
 use Rattle.store.specs.Update.{writes, update}
 use Rattle.store.proofs.Updated.{Wrote, count-update, count-written}
 use Rattle.store.proofs.Sound.{IsView, SoundStore, FitsView}
 use Rattle.store.proofs.Links.{history, held}
-use Rattle.growth.proofs.Made.{Made, WriterOf, Writer, Writes, wrote-after, writer-after}
+use Rattle.growth.proofs.Made.{Made, WriterOf, Writer, Writes, wrote-after, writer-after, after}
 use Rattle.growth.proofs.Ordered.{Ordered, writes-once}
 
 -- t wrote something, and the view holds none of it
@@ -124,43 +124,34 @@ abbrev pub WithOwn : Store → Commit → View → View → Type 0
 WithOwn s c v v′ = (k i : ℕ) → T (has (v′ k) i) ↔ (T (has (v k) i) ⊎ (T (writes c k) × (i ≡ count s k)))
 
 module _ (s : Store) (u : View) (c : Commit) (m : Made s u c) (v : View) (w : IsView s v) where
-  abbrev H : History
-  H = history s
-
-  abbrev H′ : History
-  H′ = history (update s u c)
-
-  abbrev me : CommitNumber
-  me = nextNumber s
-
   -- a view of the store before holds the same commits after
-  pub holds-kept : (t : CommitNumber) → Holds H′ (held v) t ↔ Holds H (held v) t
+  pub holds-kept : (t : CommitNumber) → Holds (after s u c) (held v) t ↔ Holds (history s) (held v) t
   holds-kept t = (λ (k, i, h, x). out k i h (wrote-after s u c m t k i .0 x), λ (k, i, h, x). (k, i, h, wrote-after s u c m t k i .1 (inl x)))
     where
-      out : (k i : ℕ) → T (has (v k) i) → Wrote s t k i ⊎ ((t ≡ me) × T (writes c k) × (i ≡ count s k)) → Holds H (held v) t
+      out : (k i : ℕ) → T (has (v k) i) → Wrote s t k i ⊎ ((t ≡ nextNumber s) × T (writes c k) × (i ≡ count s k)) → Holds (history s) (held v) t
       out k i h (inl x) = (k, i, h, x)
       out k i h (inr (_, _, e)) = let l : i < count s k = w .exist k i h in absurd (omega arith)
 
   -- so a view that was full after an earlier commit remains that
-  pub holds-up-to-kept : (t : CommitNumber) → t < me → HoldsUpTo s v t → HoldsUpTo (update s u c) v t
+  pub holds-up-to-kept : (t : CommitNumber) → t < nextNumber s → HoldsUpTo s v t → HoldsUpTo (update s u c) v t
   holds-up-to-kept t l is a =
       ( λ x. let y = is a .0 (holds-kept a .0 x) in (writer-after s u c m a .1 (inl (y .0)), y .1)
       , λ (x, q). holds-kept a .1 (is a .1 (old q (writer-after s u c m a .0 x), q)) )
     where
-      old : a ≤ t → Writer H a ⊎ ((a ≡ me) × Writes c) → Writer H a
+      old : a ≤ t → Writer (history s) a ⊎ ((a ≡ nextNumber s) × Writes c) → Writer (history s) a
       old q (inl x) = x
       old q (inr (e, _)) = absurd (omega arith)
 
   -- with the commit's own versions it holds the commit too, if that writes something
-  pub holds-own : (v′ : View) → WithOwn s c v v′ → (t : CommitNumber) → Holds H′ (held v′) t ↔ (Holds H (held v) t ⊎ ((t ≡ me) × Writes c))
+  pub holds-own : (v′ : View) → WithOwn s c v v′ → (t : CommitNumber) → Holds (after s u c) (held v′) t ↔ (Holds (history s) (held v) t ⊎ ((t ≡ nextNumber s) × Writes c))
   holds-own v′ is t = (λ (k, i, h, x). out k i (is k i .0 h) (wrote-after s u c m t k i .0 x), back)
     where
-      out : (k i : ℕ) → T (has (v k) i) ⊎ (T (writes c k) × (i ≡ count s k)) → Wrote s t k i ⊎ ((t ≡ me) × T (writes c k) × (i ≡ count s k))
-          → Holds H (held v) t ⊎ ((t ≡ me) × Writes c)
+      out : (k i : ℕ) → T (has (v k) i) ⊎ (T (writes c k) × (i ≡ count s k)) → Wrote s t k i ⊎ ((t ≡ nextNumber s) × T (writes c k) × (i ≡ count s k))
+          → Holds (history s) (held v) t ⊎ ((t ≡ nextNumber s) × Writes c)
       out k i (inl h) (inl x) = inl (k, i, h, x)
       out k i (inr (_, e)) (inl x) = let l : i < count s k = x .0 in absurd (omega arith)
       out k i h (inr (e, y, _)) = inr (e, (k, y))
-      back : Holds H (held v) t ⊎ ((t ≡ me) × Writes c) → Holds H′ (held v′) t
+      back : Holds (history s) (held v) t ⊎ ((t ≡ nextNumber s) × Writes c) → Holds (after s u c) (held v′) t
       back (inl (k, i, h, x)) = (k, i, is k i .1 (inl h), wrote-after s u c m t k i .1 (inl x))
       back (inr (e, (k, y))) = (k, count s k, is k (count s k) .1 (inr (y, refl)), wrote-after s u c m t k (count s k) .1 (inr (e, y, refl)))
 
@@ -178,8 +169,8 @@ module _ (s : Store) (u : View) (c : Commit) (m : Made s u c) (v : View) (w : Is
       there : (k i : ℕ) → T (has (v k) i) ⊎ (T (writes c k) × (i ≡ count s k)) → i < count (update s u c) k
       there k i (inl h) = let l : i < count s k = w .exist k i h in omega (arith, count-update s u c k)
       there k i (inr (y, e)) = omega (arith, count-written s u c k y)
-      all : (t k i l j : ℕ) → T (has (v k) i) ⊎ (T (writes c k) × (i ≡ count s k)) → Wrote s t k i ⊎ ((t ≡ me) × T (writes c k) × (i ≡ count s k))
-          → Wrote s t l j ⊎ ((t ≡ me) × T (writes c l) × (j ≡ count s l)) → T (has (v′ l) j)
+      all : (t k i l j : ℕ) → T (has (v k) i) ⊎ (T (writes c k) × (i ≡ count s k)) → Wrote s t k i ⊎ ((t ≡ nextNumber s) × T (writes c k) × (i ≡ count s k))
+          → Wrote s t l j ⊎ ((t ≡ nextNumber s) × T (writes c l) × (j ≡ count s l)) → T (has (v′ l) j)
       all t k i l j h x (inr (_, y, e)) = is l j .1 (inr (y, e))
       all t k i l j (inl h) (inl x) (inl y) = is l j .1 (inl (w .whole t k i l j h x y))
       all t k i l j (inr (_, e)) (inl x) (inl y) = let n : i < count s k = x .0 in absurd (omega arith)
