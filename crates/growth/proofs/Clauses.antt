@@ -46,9 +46,10 @@ module _ (s : Store) (u : View) (v : IsView s u) where
 
   -- what wants all versions by certain commits passes exactly where none of these is lacking
   all-of-is : (W : CommitNumber → Type 0) → ((a : CommitNumber) → W a → (k i : ℕ) → Wrote s a k i → T (has (u k) i)) ↔ (¬ LacksOneOf s u W)
-  all-of-is W =
-      ( λ f (a, x, ((k, (i, w)), n)). not-lacking a k i w (f a x k i w) ((k, (i, w)), n)
-      , λ none a x k i w. held-unless-lacking a k i w (λ y. none (a, x, y)) )
+  all-of-is W = (
+    λ f (a, x, ((k, (i, w)), n)). not-lacking a k i w (f a x k i w) ((k, (i, w)), n),
+    λ none a x k i w. held-unless-lacking a k i w (λ y. none (a, x, y)),
+  )
 
   -- clauses 3, 6 and 7
   pub closed-is : (R : ℕ → ℕ → Type 0) → Closed R (history s) (held u) ↔ (¬ LacksOneOf s u (LeadsToHeld s u R))
@@ -76,32 +77,37 @@ module _ (s : Store) (u : View) (v : IsView s u) where
       out : WriteFollowsReads (history s) (held u) → ¬ LacksOneOf s u (LeadsToHeld s u (ReadUpTo (history s)))
       out f (a, (t, h, (r, inl e, write-read {k} {i} w x)), y) = not-lacking a k i w (f t h .0 k i (subst (λ (z : ℕ). Read s z k i) e x)) y
       out f (a, (t, h, (r, inr o, write-read {k} {i} w x)), y) = not-lacking a k i w (f t h .1 r k i o x) y
+
       at : (¬ LacksOneOf s u (LeadsToHeld s u (ReadUpTo (history s)))) → (t : CommitNumber) → Holds (history s) (held u) t
           → (r k i : ℕ) → (r ≡ t) ⊎ SO (history s) r t → Read s r k i → T (has (u k) i)
       at none t h r k i o x =
           let a = version s k i .writer in
           let w : Wrote s a k i = (x .0, refl) in
           held-unless-lacking a k i w (λ y. none (a, (t, h, (r, o, write-read {k = k} {i = i} w x)), y))
+
       back : (¬ LacksOneOf s u (LeadsToHeld s u (ReadUpTo (history s)))) → WriteFollowsReads (history s) (held u)
       back none t h = (λ k i x. at none t h t k i (inl refl) x, λ a k i o x. at none t h a k i (inr o) x)
 
   -- clause 5: the writers of the keys written
   pub update-atomic-is : (c : Commit) → UpdateAtomic (history s) (held u) (λ k. T (writes c k)) ↔ (¬ LacksOneOf s u (FromWrite s c))
-  update-atomic-is c =
-      ( λ f (a, (k, x, (i, w)), y). not-lacking a k i w (f a k i x w) y
-      , λ none a k i x w. held-unless-lacking a k i w (λ y. none (a, (k, x, (i, w)), y)) )
+  update-atomic-is c = (
+    λ f (a, (k, x, (i, w)), y). not-lacking a k i w (f a k i x w) y,
+    λ none a k i x w. held-unless-lacking a k i w (λ y. none (a, (k, x, (i, w)), y)),
+  )
 
   -- the same by masks
   pub update-atomic-masks : (c : Commit) → UpdateAtomic (history s) (held u) (λ k. T (writes c k)) ↔ ((k : Key) → T (writes c k) → u k ≡ below (count s k))
-  update-atomic-masks c =
-      ( λ f k x. below-is (count s k) (u k) (v .word k) (v .exist k) .1 (λ i l. f (version s k i .writer) k i x (l, refl))
-      , λ f a k i x w. below-is (count s k) (u k) (v .word k) (v .exist k) .0 (f k x) i (w .0) )
+  update-atomic-masks c = (
+    λ f k x. below-is (count s k) (u k) (v .word k) (v .exist k) .1 (λ i l. f (version s k i .writer) k i x (l, refl)),
+    λ f a k i x w. below-is (count s k) (u k) (v .word k) (v .exist k) .0 (f k x) i (w .0),
+  )
 
   -- clause 8: all writers; that is, the view is full
   pub serialisable-is : Serialisable (history s) (held u) ↔ (¬ ((a : CommitNumber) × Lacking s u a))
-  serialisable-is =
-      ( λ f (a, ((k, (i, w)), n)). not-lacking a k i w (f a k i w) ((k, (i, w)), n)
-      , λ none a k i w. held-unless-lacking a k i w (λ y. none (a, y)) )
+  serialisable-is = (
+    λ f (a, ((k, (i, w)), n)). not-lacking a k i w (f a k i w) ((k, (i, w)), n),
+    λ none a k i w. held-unless-lacking a k i w (λ y. none (a, y)),
+  )
 
   pub serialisable-full : Serialisable (history s) (held u) ↔ Full s u
   serialisable-full = (λ f k i l. f (version s k i .writer) k i (l, refl), λ f a k i w. f k i (w .0))
@@ -111,14 +117,17 @@ module _ (s : Store) (u : View) (v : IsView s u) where
 -- where a test says which commits a clause wants, it fails exactly where one of them is lacking
 pub fails-exactly : (s : Store) → SoundStore s → (u : View) {P : Type 0} (W : CommitNumber → Type 0) (wanted : CommitNumber → Bool)
     → ((a : CommitNumber) → T (wanted a) ↔ W a) → P ↔ (¬ LacksOneOf s u W) → (¬ P) ↔ LacksOneOf s u W
-fails-exactly s h u W wanted is p =
-    ( λ n. let y = among .0 (stable (any (nextNumber s) test) (λ x. n (p .1 (λ (a, w, l). x (among .1 (a, h .writers a (l .0 .0) (l .0 .1 .0) (l .0 .1 .1), (w, l))))))) in (y .0, y .2 .0, y .2 .1)
-    , λ x q. p .0 q x )
+fails-exactly s h u W wanted is p = (
+  λ n. let y = among .0 (stable (any (nextNumber s) test) (λ x. n (p .1 (λ (a, w, l). x (among .1 (a, h .writers a (l .0 .0) (l .0 .1 .0) (l .0 .1 .1), (w, l))))))) in (y .0, y .2 .0, y .2 .1),
+  λ x q. p .0 q x,
+)
   where
     test : CommitNumber → Bool
     test a = wanted a && (somewhere s (wrote s a) && not (holds s u a))
+
     writes-something : (a : CommitNumber) → T (somewhere s (wrote s a)) ↔ Writer (history s) a
     writes-something a = let w = somewhere-is s h (wrote s a) (λ k i. eq-is (version s k i .writer) a) in
         (λ t. let (k, i, l, e) = w .0 t in (k, (i, (l, e))), λ (k, (i, (l, e))). w .1 (k, i, l, e))
+
     among : T (any (nextNumber s) test) ↔ ((a : CommitNumber) × (a < nextNumber s) × (W a × Lacking s u a))
     among = any-is (nextNumber s) test (λ a. and-is (wanted a) _ (is a) (and-is (somewhere s (wrote s a)) _ (writes-something a) (not-is (holds s u a) (holds-means s h u a))))

@@ -63,19 +63,21 @@ module _ (s : Store) (u : View) (c : Commit) (m : Made s u c) where
           let g : update s u c .sessionOf b ≡ s .sessionOf b = session-kept s u c m nb in
           absurd (omega arith)
       cases p q e l (inr (z, o)) (inr (z′, _)) = let f : update s u c .sessionOf a ≡ update s u c .sessionOf b = ap (update s u c .sessionOf) (z ∙ sym z′) in absurd (omega arith)
+
       out : SO (after s u c) a b → SO (history s) a b ⊎ ((b ≡ nextNumber s) × FromSession s c a)
       out (session-order x y p q e l) = cases p q e l (stored-after s u c m a .0 x) (stored-after s u c m b .0 y)
+
       back : SO (history s) a b ⊎ ((b ≡ nextNumber s) × FromSession s c a) → SO (after s u c) a b
       back (inl (session-order x y p q e l)) =
           let na = stored-not-new s u c m x in
           let nb = stored-not-new s u c m y in
           session-order (stored-after s u c m a .1 (inl x)) (stored-after s u c m b .1 (inl y)) p q
-            (client-kept s u c m na ∙ e ∙ sym (client-kept s u c m nb)) (rw (session-kept s u c m na, session-kept s u c m nb) l)
+          (client-kept s u c m na ∙ e ∙ sym (client-kept s u c m nb)) (rw (session-kept s u c m na, session-kept s u c m nb) l)
       back (inr (z, (o, (x, p, e)))) =
           let na = stored-not-new s u c m x in
           session-order (stored-after s u c m a .1 (inl x)) (stored-after s u c m b .1 (inr (z, o))) p (omega arith)
-            (client-kept s u c m na ∙ e ∙ sym (ap (update s u c .clientOf) z ∙ client-new s u c m))
-            (rw (session-kept s u c m na, z, session-new s u c m) (m .newer a (appears-stored s a .1 x) p e))
+          (client-kept s u c m na ∙ e ∙ sym (ap (update s u c .clientOf) z ∙ client-new s u c m))
+          (rw (session-kept s u c m na, z, session-new s u c m) (m .newer a (appears-stored s a .1 x) p e))
 
   pub WR-after : (a b : CommitNumber) → WR (after s u c) a b ↔ (WR (history s) a b ⊎ ((b ≡ nextNumber s) × FromRead s u c a))
   WR-after a b = (out, back)
@@ -86,8 +88,10 @@ module _ (s : Store) (u : View) (c : Commit) (m : Made s u c) where
       cases k i (inl w) (inr (e, r, j)) = inr (e, (k, r, rw (← j) (w .1)))
       cases k i (inr (_, _, j)) (inl r) = let l : i < count s k = r .0 in absurd (omega arith)
       cases k i (inr (_, _, j)) (inr (_, r, j′)) = let l : newest u k < count s k = read-exists s u c m k r in absurd (omega arith)
+
       out : WR (after s u c) a b → WR (history s) a b ⊎ ((b ≡ nextNumber s) × FromRead s u c a)
       out (write-read {k} {i} w r) = cases k i (wrote-after s u c m a k i .0 w) (read-after s u c m b k i .0 r)
+
       back : WR (history s) a b ⊎ ((b ≡ nextNumber s) × FromRead s u c a) → WR (after s u c) a b
       back (inl (write-read {k} {i} w r)) = write-read {k = k} {i = i} (wrote-after s u c m a k i .1 (inl w)) (read-after s u c m b k i .1 (inl r))
       back (inr (e, (k, r, w))) =
@@ -102,8 +106,10 @@ module _ (s : Store) (u : View) (c : Commit) (m : Made s u c) where
       cases k i j l (inl w) (inr (e, x, _)) = inr (e, (k, x, (i, w)))
       cases k i j l (inr (_, _, q)) (inl v) = let n : j < count s k = v .0 in absurd (omega arith)
       cases k i j l (inr (_, _, q)) (inr (_, _, q′)) = absurd (omega arith)
+
       out : WW (after s u c) a b → WW (history s) a b ⊎ ((b ≡ nextNumber s) × FromWrite s c a)
       out (write-write {k} {i} {j} w v l) = cases k i j l (wrote-after s u c m a k i .0 w) (wrote-after s u c m b k j .0 v)
+
       back : WW (history s) a b ⊎ ((b ≡ nextNumber s) × FromWrite s c a) → WW (after s u c) a b
       back (inl (write-write {k} {i} {j} w v l)) = write-write {k = k} {i = i} {j = j} (wrote-after s u c m a k i .1 (inl w)) (wrote-after s u c m b k j .1 (inl v)) l
       back (inr (e, (k, x, (i, w)))) =
@@ -118,13 +124,15 @@ module _ (s : Store) (u : View) (c : Commit) (m : Made s u c) where
       cases k i j l n (inl r) (inr (e, x, _)) = inr (inl (e, (k, x, (i, r))))
       cases k i j l n (inr (e, x, q)) (inl w) = inr (inr (e, (k, x, (j, rw (← q) l, w))))
       cases k i j l n (inr (e, _, _)) (inr (e′, _, _)) = absurd (n (e ∙ sym e′))
+
       out : RW (after s u c) a b → RW (history s) a b ⊎ (((b ≡ nextNumber s) × FromReader s c a) ⊎ ((a ≡ nextNumber s) × ToLater s u c b))
       out (read-write {k} {i} {j} r w l n) = cases k i j l n (read-after s u c m a k i .0 r) (wrote-after s u c m b k j .0 w)
+
       back : RW (history s) a b ⊎ (((b ≡ nextNumber s) × FromReader s c a) ⊎ ((a ≡ nextNumber s) × ToLater s u c b)) → RW (after s u c) a b
       back (inl (read-write {k} {i} {j} r w l n)) = read-write {k = k} {i = i} {j = j} (read-after s u c m a k i .1 (inl r)) (wrote-after s u c m b k j .1 (inl w)) l n
       back (inr (inl (e, (k, x, (i, r))))) =
           read-write {k = k} {i = i} {j = count s k} (read-after s u c m a k i .1 (inl r)) (wrote-after s u c m b k (count s k) .1 (inr (e, x, refl))) (r .0)
-            (λ q. stored-not-new s u c m (as-reader {k = k} {i = i} r) (q ∙ e))
+          (λ q. stored-not-new s u c m (as-reader {k = k} {i = i} r) (q ∙ e))
       back (inr (inr (e, (k, x, (j, l, w))))) =
           read-write {k = k} {i = newest u k} {j = j} (read-after s u c m a k (newest u k) .1 (inr (e, x, refl))) (wrote-after s u c m b k j .1 (inl w)) l
-            (λ q. stored-not-new s u c m (as-writer {k = k} {i = j} w) (sym q ∙ e))
+          (λ q. stored-not-new s u c m (as-writer {k = k} {i = j} w) (sym q ∙ e))

@@ -65,6 +65,7 @@ some-version-after {P} {P′} {A} {B} n is = (λ (i, x). out i (is i .0 x), back
     out : (i : VersionNumber) → P i ⊎ (A × B × (i ≡ n)) → ((i : VersionNumber) × P i) ⊎ (A × B)
     out i (inl x) = inl (i, x)
     out i (inr (a, b, _)) = inr (a, b)
+
     back : ((i : VersionNumber) × P i) ⊎ (A × B) → (i : VersionNumber) × P′ i
     back (inl (i, x)) = (i, is i .1 (inl x))
     back (inr (a, b)) = (n, is n .1 (inr (a, b, refl)))
@@ -115,6 +116,7 @@ module _ (s : Store) (u : View) (c : Commit) (m : Made s u c) where
       out : (k : Key) → WriterOf (history s) k t ⊎ ((t ≡ nextNumber s) × T (writes c k)) → Writer (history s) t ⊎ ((t ≡ nextNumber s) × Writes c)
       out k (inl w) = inl (k, w)
       out k (inr (e, w)) = inr (e, (k, w))
+
       back : Writer (history s) t ⊎ ((t ≡ nextNumber s) × Writes c) → Writer (after s u c) t
       back (inl (k, w)) = (k, writer-of-after k t .1 (inl w))
       back (inr (e, (k, w))) = (k, writer-of-after k t .1 (inr (e, w)))
@@ -126,12 +128,15 @@ module _ (s : Store) (u : View) (c : Commit) (m : Made s u c) where
       written : (k i : ℕ) → Wrote s t k i ⊎ ((t ≡ nextNumber s) × T (writes c k) × (i ≡ count s k)) → Stored (history s) t ⊎ ((t ≡ nextNumber s) × Operates c)
       written k i (inl w) = inl (as-writer {k = k} {i = i} w)
       written k i (inr (e, w, _)) = inr (e, (k, inr w))
+
       read : (k i : ℕ) → Read s t k i ⊎ ((t ≡ nextNumber s) × T (reads c k) × (i ≡ newest u k)) → Stored (history s) t ⊎ ((t ≡ nextNumber s) × Operates c)
       read k i (inl r) = inl (as-reader {k = k} {i = i} r)
       read k i (inr (e, r, _)) = inr (e, (k, inl r))
+
       out : Stored (after s u c) t → Stored (history s) t ⊎ ((t ≡ nextNumber s) × Operates c)
       out (as-writer {k} {i} w) = written k i (wrote-after t k i .0 w)
       out (as-reader {k} {i} r) = read k i (read-after t k i .0 r)
+
       back : Stored (history s) t ⊎ ((t ≡ nextNumber s) × Operates c) → Stored (after s u c) t
       back (inl (as-writer {k} {i} w)) = as-writer {k = k} {i = i} (wrote-after t k i .1 (inl w))
       back (inl (as-reader {k} {i} r)) = as-reader {k = k} {i = i} (read-after t k i .1 (inl r))
@@ -144,6 +149,7 @@ module _ (s : Store) (u : View) (c : Commit) (m : Made s u c) where
       out : Stored (history s) t ⊎ ((t ≡ nextNumber s) × Operates c) → Appears s t ⊎ ((t ≡ nextNumber s) × Operates c)
       out (inl x) = inl (appears-stored s t .1 x)
       out (inr x) = inr x
+
       back : Appears s t ⊎ ((t ≡ nextNumber s) × Operates c) → Stored (history s) t ⊎ ((t ≡ nextNumber s) × Operates c)
       back (inl x) = inl (appears-stored s t .0 x)
       back (inr x) = inr x
@@ -172,6 +178,7 @@ module _ (s : Store) (u : View) (c : Commit) (m : Made s u c) where
       out : 0 < t → update s u c .clientOf t ≡ d → Stored (history s) t ⊎ ((t ≡ nextNumber s) × Operates c) → CommitBy (history s) d t ⊎ ((t ≡ nextNumber s) × Operates c × (c .client ≡ d))
       out p e (inl x) = inl (x, p, sym (client-kept (stored-not-new x)) ∙ e)
       out p e (inr (q, o)) = inr (q, o, sym client-new ∙ ap (update s u c .clientOf) (sym q) ∙ e)
+
       back : CommitBy (history s) d t ⊎ ((t ≡ nextNumber s) × Operates c × (c .client ≡ d)) → CommitBy (after s u c) d t
       back (inl (x, p, e)) = (stored-after t .1 (inl x), p, client-kept (stored-not-new x) ∙ e)
       back (inr (q, o, e)) = (stored-after t .1 (inr (q, o)), omega arith, ap (update s u c .clientOf) q ∙ client-new ∙ e)

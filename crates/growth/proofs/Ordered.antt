@@ -106,7 +106,7 @@ ordered-opening keys = record {
       let w : version (openingStore keys) k 0 .writer < 1 = sound .writers (version (openingStore keys) k 0 .writer) k 0 (p, refl) in
       (p, omega arith);
   writers-rise = λ a b k i j w v l. let n : j < count (openingStore keys) k = v .0 in let f : count (openingStore keys) k ≤ 1 = sound .few k in absurd (omega arith);
-  readers-follow = λ a b k i w r. absurd (opening-unread keys b k i r)
+  readers-follow = λ a b k i w r. absurd (opening-unread keys b k i r);
 }
   where
     sound : SoundStore (openingStore keys)
@@ -119,7 +119,7 @@ ordered-commit s u c m o = record {
   sessions-rise = λ a b x y p q e l. session a b p q e l (stored-after s u c m a .0 x) (stored-after s u c m b .0 y);
   first-by-opening = λ k l. wrote-stays s u c 0 k 0 (o .first-by-opening k (rw (← keys-after s u c m) l));
   writers-rise = λ a b k i j w v l. writer a b k i j l (wrote-after s u c m a k i .0 w) (wrote-after s u c m b k j .0 v);
-  readers-follow = λ a b k i w r. reader a b k i (wrote-after s u c m a k i .0 w) (read-after s u c m b k i .0 r)
+  readers-follow = λ a b k i w r. reader a b k i (wrote-after s u c m a k i .0 w) (read-after s u c m b k i .0 r);
 }
   where
     session : (a b : CommitNumber) → 0 < a → 0 < b → update s u c .clientOf a ≡ update s u c .clientOf b → a < b
@@ -135,12 +135,14 @@ ordered-commit s u c m o = record {
         rw (session-kept s u c m na, z, session-new s u c m) (m .newer a (appears-stored s a .1 x) p by)
     session a b p q e l (inr (z, _)) (inl y) = let k : b < nextNumber s = stored-below s (m .sound) b y in absurd (omega arith)
     session a b p q e l (inr (z, _)) (inr (z′, _)) = absurd (omega arith)
+
     writer : (a b k i j : ℕ) → i < j → Wrote s a k i ⊎ ((a ≡ nextNumber s) × T (writes c k) × (i ≡ count s k))
         → Wrote s b k j ⊎ ((b ≡ nextNumber s) × T (writes c k) × (j ≡ count s k)) → a < b
     writer a b k i j l (inl w) (inl v) = o .writers-rise a b k i j w v l
     writer a b k i j l (inl w) (inr (e, _, _)) = let n : a < nextNumber s = m .sound .writers a k i w in omega arith
     writer a b k i j l (inr (_, _, e)) (inl v) = let n : j < count s k = v .0 in absurd (omega arith)
     writer a b k i j l (inr (_, _, e)) (inr (_, _, e′)) = absurd (omega arith)
+
     reader : (a b k i : ℕ) → Wrote s a k i ⊎ ((a ≡ nextNumber s) × T (writes c k) × (i ≡ count s k))
         → Read s b k i ⊎ ((b ≡ nextNumber s) × T (reads c k) × (i ≡ newest u k)) → a < b
     reader a b k i (inl w) (inl r) = o .readers-follow a b k i w r

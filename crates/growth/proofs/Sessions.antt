@@ -47,9 +47,11 @@ module _ (s : Store) (u : View) (c : Commit) (m : Made s u c) where
       new : (r : CommitNumber) → r ≡ nextNumber s → WR (history s) a r ⊎ ((r ≡ nextNumber s) × FromRead s u c a) → FromRead s u c a
       new r e (inl y) = absurd (stored-not-new s u c m (reader-stored y) e)
       new r e (inr (_, y)) = y
+
       out : (r : CommitNumber) → WR (after s u c) a r → CommitBy (history s) d r ⊎ ((r ≡ nextNumber s) × Operates c × (c .client ≡ d)) → ReadByClient (history s) d a ⊎ ((c .client ≡ d) × FromRead s u c a)
       out r y (inl x) = inl (r, x, read-from-old a r (x .0) y)
       out r y (inr (e, _, q)) = inr (q, new r e (WR-after s u c m a r .0 y))
+
       back : ReadByClient (history s) d a ⊎ ((c .client ≡ d) × FromRead s u c a) → ReadByClient (after s u c) d a
       back (inl (r, x, y)) = (r, commit-by-after s u c m d r .1 (inl x), WR-after s u c m a r .1 (inl y))
       back (inr (q, y)) = ((nextNumber s), commit-by-after s u c m d (nextNumber s) .1 (inr (refl, reads-operates y, q)), WR-after s u c m a (nextNumber s) .1 (inr (refl, y)))
@@ -61,15 +63,19 @@ module _ (s : Store) (u : View) (c : Commit) (m : Made s u c) where
     where
       New : Type 0
       New = (t ≡ nextNumber s) × (FromRead s u c a ⊎ (Operates c × ReadByClient (history s) (c .client) a))
+
       by-it : WR (history s) a t ⊎ ((t ≡ nextNumber s) × FromRead s u c a) → ReadUpTo (history s) a t ⊎ New
       by-it (inl y) = inl (t, inl refl, y)
       by-it (inr (e, y)) = inr (e, inl y)
+
       before : (r : CommitNumber) → WR (after s u c) a r → SO (history s) r t ⊎ ((t ≡ nextNumber s) × FromSession s c r) → ReadUpTo (history s) a t ⊎ New
       before r y (inl (session-order x z p q e l)) = inl (r, inr (session-order x z p q e l), read-from-old a r x y)
       before r y (inr (e, (o, x))) = inr (e, inr (o, (r, x, read-from-old a r (x .0) y)))
+
       out : (r : CommitNumber) → WR (after s u c) a r → (r ≡ t) ⊎ SO (after s u c) r t → ReadUpTo (history s) a t ⊎ New
       out r y (inl e) = by-it (WR-after s u c m a t .0 (subst (WR (after s u c) a) e y))
       out r y (inr x) = before r y (SO-after s u c m r t .0 x)
+
       back : ReadUpTo (history s) a t ⊎ New → ReadUpTo (after s u c) a t
       back (inl (r, inl e, y)) = (r, inl e, WR-after s u c m a r .1 (inl y))
       back (inl (r, inr x, y)) = (r, inr (SO-after s u c m r t .1 (inl x)), WR-after s u c m a r .1 (inl y))

@@ -29,12 +29,15 @@ either-grows t D D′ Q Q′ E F d q a b = (out, back)
     first : D a b ⊎ ((b ≡ t) × E a) → (D a b ⊎ Q a b) ⊎ ((b ≡ t) × (E a ⊎ F a))
     first (inl x) = inl (inl x)
     first (inr (e, x)) = inr (e, inl x)
+
     second : Q a b ⊎ ((b ≡ t) × F a) → (D a b ⊎ Q a b) ⊎ ((b ≡ t) × (E a ⊎ F a))
     second (inl x) = inl (inr x)
     second (inr (e, x)) = inr (e, inr x)
+
     out : D′ a b ⊎ Q′ a b → (D a b ⊎ Q a b) ⊎ ((b ≡ t) × (E a ⊎ F a))
     out (inl x) = first (d a b .0 x)
     out (inr x) = second (q a b .0 x)
+
     back : (D a b ⊎ Q a b) ⊎ ((b ≡ t) × (E a ⊎ F a)) → D′ a b ⊎ Q′ a b
     back (inl (inl x)) = inl (d a b .1 (inl x))
     back (inl (inr x)) = inr (q a b .1 (inl x))
@@ -80,6 +83,7 @@ plain-link-is H a b = (out, back)
     out (by-SO d) = inl (inl d)
     out (by-WR d) = inl (inr d)
     out (by-WW d) = inr d
+
     back : SessionOrRead H a b ⊎ WW H a b → PlainLink H a b
     back (inl (inl d)) = by-SO d
     back (inl (inr d)) = by-WR d
@@ -94,6 +98,7 @@ prefix-step-is H a b = (out, back)
     out (inr (inl (alone d))) = inl (alone (inr d))
     out (inr (inl (followed d r))) = inl (followed (inr d) r)
     out (inr (inr w)) = inr w
+
     back : ThenMaybe (SessionOrRead H) (RW H) a b ⊎ WW H a b → PrefixStep H a b
     back (inl (alone (inl d))) = inl (alone d)
     back (inl (alone (inr d))) = inr (inl (alone d))
@@ -115,6 +120,7 @@ module _ (s : Store) (u : View) (c : Commit) (m : Made s u c) where
         link : D a b ⊎ ((b ≡ nextNumber s) × E a) → ThenMaybe D (RW (history s)) a b ⊎ NewStep s u c D E E a b
         link (inl d) = inl (alone d)
         link (inr (e, x)) = inr (inl (e, inl x))
+
         cases : (r : CommitNumber) → D a r ⊎ ((r ≡ nextNumber s) × E a) → RW (history s) r b ⊎ (((b ≡ nextNumber s) × FromReader s c r) ⊎ ((r ≡ nextNumber s) × ToLater s u c b))
             → ThenMaybe D (RW (history s)) a b ⊎ NewStep s u c D E E a b
         cases r (inl d) (inl x) = inl (followed d x)
@@ -123,9 +129,11 @@ module _ (s : Store) (u : View) (c : Commit) (m : Made s u c) where
         cases r (inr (e, x)) (inl (read-write {k} {i} y w l n)) = absurd (stored-not-new s u c m (as-reader {k = k} {i = i} y) e)
         cases r (inr (e, x)) (inr (inl (_, y))) = absurd (stored-not-new s u c m (from-reader-stored s c y) e)
         cases r (inr (e, x)) (inr (inr (_, y))) = inr (inr (y, x))
+
         out : ThenMaybe D′ (RW (after s u c)) a b → ThenMaybe D (RW (history s)) a b ⊎ NewStep s u c D E E a b
         out (alone d) = link (grows a b .0 d)
         out (followed {b = r} d x) = cases r (grows a r .0 d) (RW-after s u c m r b .0 x)
+
         back : ThenMaybe D (RW (history s)) a b ⊎ NewStep s u c D E E a b → ThenMaybe D′ (RW (after s u c)) a b
         back (inl (alone d)) = alone (grows a b .1 (inl d))
         back (inl (followed {b = r} d x)) = followed (grows a r .1 (inl d)) (RW-after s u c m r b .1 (inl x))
@@ -142,6 +150,7 @@ module _ (s : Store) (u : View) (c : Commit) (m : Made s u c) where
         cases r (inl d) (inr (e, _)) = absurd (first-not-new d e)
         cases r (inr (e, _)) (inl (i, x)) = absurd (stored-not-new s u c m (as-reader {k = k} {i = i} x) e)
         cases r (inr (_, y)) (inr (_, x)) = inr (x, y)
+
         back : LeadsTo D (history s) k a ⊎ (T (reads c k) × E a) → LeadsTo D′ (after s u c) k a
         back (inl (r, d, x)) = (r, grows a r .1 (inl d), reader-of-after s u c m k r .1 (inl x))
         back (inr (x, y)) = ((nextNumber s), grows a (nextNumber s) .1 (inr (refl, y)), reader-of-after s u c m k (nextNumber s) .1 (inr (refl, x)))
@@ -165,6 +174,7 @@ module _ (s : Store) (u : View) (c : Commit) (m : Made s u c) where
         out (inl x) = inl x
         out (inr (inl (e, _))) = absurd (n e)
         out (inr (inr x)) = inr x
+
         back : S a b ⊎ (ToLater s u c b × Through a) → S a b ⊎ NewStep s u c D Into Through a b
         back (inl x) = inl x
         back (inr x) = inr (inr x)
@@ -187,6 +197,7 @@ module _ (s : Store) (u : View) (c : Commit) (m : Made s u c) where
       out : (SessionOrRead (history s) a b ⊎ WW (history s) a b) ⊎ ((b ≡ nextNumber s) × PlainSource s u c a) → PlainLink (history s) a b ⊎ ((b ≡ nextNumber s) × PlainSource s u c a)
       out (inl d) = inl (plain-link-is (history s) a b .1 d)
       out (inr x) = inr x
+
       back : PlainLink (history s) a b ⊎ ((b ≡ nextNumber s) × PlainSource s u c a) → (SessionOrRead (history s) a b ⊎ WW (history s) a b) ⊎ ((b ≡ nextNumber s) × PlainSource s u c a)
       back (inl d) = inl (plain-link-is (history s) a b .0 d)
       back (inr x) = inr x
@@ -212,23 +223,29 @@ module _ (s : Store) (u : View) (c : Commit) (m : Made s u c) where
     where
       New : Type 0
       New = NewStep s u c (SessionOrRead (history s)) (PlainSource s u c) (SessionOrReadSource s u c) a b
+
       steps : ThenMaybe (SessionOrRead (after s u c)) (RW (after s u c)) a b
           ↔ (ThenMaybe (SessionOrRead (history s)) (RW (history s)) a b ⊎ NewStep s u c (SessionOrRead (history s)) (SessionOrReadSource s u c) (SessionOrReadSource s u c) a b)
       steps = step-after (SessionOrRead (history s)) (SessionOrRead (after s u c)) (SessionOrReadSource s u c) session-or-read-below session-or-read-after a b
+
       step : ThenMaybe (SessionOrRead (history s)) (RW (history s)) a b ⊎ NewStep s u c (SessionOrRead (history s)) (SessionOrReadSource s u c) (SessionOrReadSource s u c) a b → PrefixStep (history s) a b ⊎ New
       step (inl x) = inl (prefix-step-is (history s) a b .1 (inl x))
       step (inr (inl (e, inl x))) = inr (inl (e, inl (inl x)))
       step (inr (inl (e, inr x))) = inr (inl (e, inr x))
       step (inr (inr x)) = inr (inr x)
+
       write : WW (history s) a b ⊎ ((b ≡ nextNumber s) × FromWrite s c a) → PrefixStep (history s) a b ⊎ New
       write (inl x) = inl (prefix-step-is (history s) a b .1 (inr x))
       write (inr (e, x)) = inr (inl (e, inl (inr x)))
+
       out : ThenMaybe (SessionOrRead (after s u c)) (RW (after s u c)) a b ⊎ WW (after s u c) a b → PrefixStep (history s) a b ⊎ New
       out (inl x) = step (steps .0 x)
       out (inr x) = write (WW-after s u c m a b .0 x)
+
       old : ThenMaybe (SessionOrRead (history s)) (RW (history s)) a b ⊎ WW (history s) a b → ThenMaybe (SessionOrRead (after s u c)) (RW (after s u c)) a b ⊎ WW (after s u c) a b
       old (inl x) = inl (steps .1 (inl x))
       old (inr x) = inr (WW-after s u c m a b .1 (inl x))
+
       back : PrefixStep (history s) a b ⊎ New → ThenMaybe (SessionOrRead (after s u c)) (RW (after s u c)) a b ⊎ WW (after s u c) a b
       back (inl x) = old (prefix-step-is (history s) a b .0 x)
       back (inr (inl (e, inl (inl x)))) = inl (steps .1 (inr (inl (e, inl x))))

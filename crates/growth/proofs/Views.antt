@@ -31,9 +31,10 @@ Full s v = (k i : ℕ) → i < count s k → T (has (v k) i)
 module _ (s : Store) (v : View) (w : IsView s v) where
   -- a view holds a version exactly where it holds one by its writer
   pub held-view : (k i : ℕ) → T (has (v k) i) ↔ ((i < count s k) × Holds (history s) (held v) (version s k i .writer))
-  held-view k i =
-      ( λ h. let l = w .exist k i h in (l, (k, i, h, (l, refl)))
-      , λ (l, (k′, i′, h, x)). w .whole (version s k i .writer) k′ i′ k i h x (l, refl) )
+  held-view k i = (
+    λ h. let l = w .exist k i h in (l, (k, i, h, (l, refl))),
+    λ (l, (k′, i′, h, x)). w .whole (version s k i .writer) k′ i′ k i h x (l, refl),
+  )
 
   -- it holds every version by t where it holds one, and else none
   pub held-writer : (t k i : ℕ) → Wrote s t k i → T (has (v k) i) ↔ Holds (history s) (held v) t
@@ -41,9 +42,10 @@ module _ (s : Store) (v : View) (w : IsView s v) where
 
   -- a version that the view lacks exists exactly where it lacks a commit
   pub lacks-version : ((k : Key) × (i : VersionNumber) × (i < count s k) × (¬ T (has (v k) i))) ↔ ((t : CommitNumber) × Lacking s v t)
-  lacks-version =
-      ( λ (k, i, l, n). (version s k i .writer, ((k, (i, (l, refl))), λ h. n (held-view k i .1 (l, h))))
-      , λ (t, ((k, (i, x)), n)). (k, i, x .0, λ h. n (k, i, h, x)) )
+  lacks-version = (
+    λ (k, i, l, n). (version s k i .writer, ((k, (i, (l, refl))), λ h. n (held-view k i .1 (l, h)))),
+    λ (t, ((k, (i, x)), n)). (k, i, x .0, λ h. n (k, i, h, x)),
+  )
 
 -- a full view holds exactly the writers of the store
 pub full-holds : (s : Store) (v : View) → Full s v → (t : CommitNumber) → Holds (history s) (held v) t ↔ Writer (history s) t
@@ -55,9 +57,10 @@ opening-not-lacking s h o v w ((k, (i, x)), n) = let l = h .only-keys k i (x .0)
 
 -- the masks of a full view
 pub full-mask : (s : Store) (v : View) → IsView s v → Full s v ↔ ((k : Key) → v k ≡ below (count s k))
-full-mask s v w =
-    ( λ f k. below-is (count s k) (v k) (w .word k) (w .exist k) .1 (f k)
-    , λ e k. below-is (count s k) (v k) (w .word k) (w .exist k) .0 (e k) )
+full-mask s v w = (
+  λ f k. below-is (count s k) (v k) (w .word k) (w .exist k) .1 (f k),
+  λ e k. below-is (count s k) (v k) (w .word k) (w .exist k) .0 (e k),
+)
 
 -- and such masks are a view
 pub full-view : (s : Store) → SoundStore s → (v : View) → FitsView (s .keys) v → ((k : Key) → k < s .keys → v k ≡ below (count s k)) → IsView s v
@@ -66,11 +69,12 @@ full-view s h v f e = record {
   beyond = f .beyond;
   opened = λ k l. holds k 0 (h .some-version k l);
   exist = λ k i x. there k i x (decLt k (s .keys));
-  whole = λ t k i l j x y z. holds l j (z .0)
+  whole = λ t k i l j x y z. holds l j (z .0);
 }
   where
     holds : (k i : ℕ) → i < count s k → T (has (v k) i)
     holds k i l = subst (λ (x : ℕ). T (has x i)) (sym (e k (h .only-keys k i l))) (has-below (count s k) i l)
+
     there : (k i : ℕ) → T (has (v k) i) → Dec (k < s .keys) → i < count s k
     there k i x (yes l) = below-has (count s k) i (subst (λ (y : ℕ). T (has y i)) (e k l) x)
     there k i x (no n) = absurd (has-none i (subst (λ (y : ℕ). T (has y i)) (f .beyond k (omega arith)) x))
@@ -90,6 +94,7 @@ holds-gained s v v′ grows t = (λ (k, i, h, x). out k i h x (T? (has (v k) i))
         → Holds (history s) (held v) t ⊎ ((k : Key) × GainedOf s v v′ k t)
     out k i h x (yes y) = inl (k, i, y, x)
     out k i h x (no n) = inr (k, (i, h, n, x))
+
     back : Holds (history s) (held v) t ⊎ ((k : Key) × GainedOf s v v′ k t) → Holds (history s) (held v′) t
     back (inl (k, i, h, x)) = (k, i, grows k i h, x)
     back (inr (k, (i, h, _, x))) = (k, i, h, x)
@@ -115,9 +120,10 @@ HoldsUpTo s v t = (a : CommitNumber) → Holds (history s) (held v) a ↔ (Write
 
 -- is so for a full view and the last commit
 pub full-holds-up-to : (s : Store) → SoundStore s → (v : View) → Full s v → HoldsUpTo s v (s .commits)
-full-holds-up-to s h v f a =
-    ( λ x. let w = full-holds s v f a .0 x in let l : a < nextNumber s = h .writers a (w .0) (w .1 .0) (w .1 .1) in (w, omega arith)
-    , λ (w, _). full-holds s v f a .1 w )
+full-holds-up-to s h v f a = (
+  λ x. let w = full-holds s v f a .0 x in let l : a < nextNumber s = h .writers a (w .0) (w .1 .0) (w .1 .1) in (w, omega arith),
+  λ (w, _). full-holds s v f a .1 w,
+)
 
 -- the view v′ is v and the versions that the commit wrote
 abbrev pub WithOwn : Store → Commit → View → View → Type 0
@@ -134,9 +140,10 @@ module _ (s : Store) (u : View) (c : Commit) (m : Made s u c) (v : View) (w : Is
 
   -- so a view that was full after an earlier commit remains that
   pub holds-up-to-kept : (t : CommitNumber) → t < nextNumber s → HoldsUpTo s v t → HoldsUpTo (update s u c) v t
-  holds-up-to-kept t l is a =
-      ( λ x. let y = is a .0 (holds-kept a .0 x) in (writer-after s u c m a .1 (inl (y .0)), y .1)
-      , λ (x, q). holds-kept a .1 (is a .1 (old q (writer-after s u c m a .0 x), q)) )
+  holds-up-to-kept t l is a = (
+    λ x. let y = is a .0 (holds-kept a .0 x) in (writer-after s u c m a .1 (inl (y .0)), y .1),
+    λ (x, q). holds-kept a .1 (is a .1 (old q (writer-after s u c m a .0 x), q)),
+  )
     where
       old : a ≤ t → Writer (history s) a ⊎ ((a ≡ nextNumber s) × Writes c) → Writer (history s) a
       old q (inl x) = x
@@ -151,6 +158,7 @@ module _ (s : Store) (u : View) (c : Commit) (m : Made s u c) (v : View) (w : Is
       out k i (inl h) (inl x) = inl (k, i, h, x)
       out k i (inr (_, e)) (inl x) = let l : i < count s k = x .0 in absurd (omega arith)
       out k i h (inr (e, y, _)) = inr (e, (k, y))
+
       back : Holds (history s) (held v) t ⊎ ((t ≡ nextNumber s) × Writes c) → Holds (after s u c) (held v′) t
       back (inl (k, i, h, x)) = (k, i, is k i .1 (inl h), wrote-after s u c m t k i .1 (inl x))
       back (inr (e, (k, y))) = (k, count s k, is k (count s k) .1 (inr (y, refl)), wrote-after s u c m t k (count s k) .1 (inr (e, y, refl)))
@@ -163,12 +171,13 @@ module _ (s : Store) (u : View) (c : Commit) (m : Made s u c) (v : View) (w : Is
     beyond = f .beyond;
     opened = λ k l. is k 0 .1 (inl (w .opened k l));
     exist = λ k i h. there k i (is k i .0 h);
-    whole = λ t k i l j h x y. all t k i l j (is k i .0 h) (wrote-after s u c m t k i .0 x) (wrote-after s u c m t l j .0 y)
+    whole = λ t k i l j h x y. all t k i l j (is k i .0 h) (wrote-after s u c m t k i .0 x) (wrote-after s u c m t l j .0 y);
   }
     where
       there : (k i : ℕ) → T (has (v k) i) ⊎ (T (writes c k) × (i ≡ count s k)) → i < count (update s u c) k
       there k i (inl h) = let l : i < count s k = w .exist k i h in omega (arith, count-update s u c k)
       there k i (inr (y, e)) = omega (arith, count-written s u c k y)
+
       all : (t k i l j : ℕ) → T (has (v k) i) ⊎ (T (writes c k) × (i ≡ count s k)) → Wrote s t k i ⊎ ((t ≡ nextNumber s) × T (writes c k) × (i ≡ count s k))
           → Wrote s t l j ⊎ ((t ≡ nextNumber s) × T (writes c l) × (j ≡ count s l)) → T (has (v′ l) j)
       all t k i l j h x (inr (_, y, e)) = is l j .1 (inr (y, e))
