@@ -1,2 +1,5 @@
 pub mod Gathering
 pub mod TableOfLevels
+pub mod MissingSame
+pub mod Common
+pub mod FirstFailing

@@ -3,9 +3,12 @@ use Prim.Native.Nat.{ℕ, _+_, _*_, _<_}
 use mathlib.Core.Path.{_≡_}
 use mathlib.Core.Option.{Option, some, none}
 use mathlib.Core.List.{List, [], _∷_}
-use lib.ListN.{length, getD, set}
-use Rattle.sets.specs.Set.{Set, insert}
-use Rattle.levels.specs.Clause.{Clause, clauseNumber}
+use mathlib.Core.Logic.{_↔_}
+use lib.Dec.{T}
+use lib.ListN.{length, getD}
+use Rattle.sets.specs.Set.{Set, has, insert}
+use Rattle.store.specs.Store.{View, Store, Commit}
+use Rattle.levels.specs.Clause.{Clause, clauseNumber, missingBy}
 use Rattle.levels.specs.Level.{Level, SER, levels, Failure}
 
 -- the level at a place in report order
@@ -41,3 +44,9 @@ KeepsVerdict verdicts i (some f) =
 pub record KeepsVerdicts (fs : Level → Option Failure) (verdicts : List ℕ) : Type 0 where
   pub room : length verdicts ≡ 4 * length levels
   pub verdict : (i : ℕ) → i < length levels → KeepsVerdict verdicts i (fs (levelAt i))
+
+-- ---- the clauses that a commit fails
+
+-- the set of the numbers of the clauses by which something is missing
+pub record FailingClauses (s : Store) (u : View) (c : Commit) (failing : Set) : Type 0 where
+  pub is : (x : Clause) → T (has failing (clauseNumber x)) ↔ (¬ (missingBy s u c x ≡ none))
