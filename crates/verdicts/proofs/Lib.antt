@@ -3,3 +3,4 @@ pub mod TableOfLevels
 pub mod MissingSame
 pub mod Common
 pub mod FirstFailing
+pub mod OnSets

@@ -1,2 +1,3 @@
 pub mod Sources
 pub mod Verdicts
+pub mod Wants
