@@ -4,3 +4,4 @@ pub mod MissingSame
 pub mod Common
 pub mod FirstFailing
 pub mod OnSets
+pub mod ByClause
