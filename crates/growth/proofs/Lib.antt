@@ -2,4 +2,6 @@ pub mod Made
 pub mod Ordered
 pub mod Links
 pub mod Steps
+pub mod Sessions
 pub mod Views
+pub mod Clauses

@@ -1,19 +1,18 @@
 -- A commit that is made on a view of a store: the hypotheses of this crate, once, and what the commit adds to the sets of commits in the store, of
 -- writers, of readers and of each client's commits. The new commit is number `nextNumber s`. Assumes nothing.
-use mathlib.Core.Path.{_≡_, refl, sym, ap, _∙_, subst}
+use mathlib.Core.Path.{_≡_, refl, sym, ap, _∙_}
 use mathlib.Core.Logic.{_⊎_, inl, inr, _↔_, _≢_}
 use Prim.Native.Nat.{ℕ, suc, _^_, _≤_, _<_}
 use native.Mathlib.Omega.{arith}
 use lib.Dec.{T}
 use lib.Pow.{pow-pos}
 use Rattle.search.proofs.Tests.{both}
-use Rattle.sets.specs.Set.{has}
 use Rattle.sets.proofs.Laws.{has-large, has-highest}
 use Rattle.dependencies.specs.History.{History, Stored, as-writer, as-reader}
-use Rattle.store.specs.Store.{Key, VersionNumber, CommitNumber, Client, View, Store, Configuration, count, version, nextNumber, Commit}
+use Rattle.store.specs.Store.{Key, VersionNumber, CommitNumber, Client, View, Store, Configuration, count, nextNumber, Commit}
 use Rattle.store.specs.Update.{reads, writes, newest, update, viewBefore}
 use Rattle.store.proofs.Updated.{Wrote, Read, at-same, at-other, wrote-update-is, read-update-is}
-use Rattle.store.proofs.Sound.{IsView, SoundStore, Sound, Appears, FitsCommit, LegalCommit}
+use Rattle.store.proofs.Sound.{IsView, SoundStore, Sound, Appears, FitsCommit, LegalCommit, sound-update}
 use Rattle.store.proofs.Links.{history, appears-stored, stored-below}
 
 -- commit c can be made on view u of store s
@@ -54,15 +53,34 @@ Writes c = (k : Key) × T (writes c k)
 
 -- ---- what the commit adds to them
 
+-- the history after the commit
+abbrev pub after : Store → View → Commit → History
+after s u c = history (update s u c)
+
+-- what is so of each version that it was so of, and of version n where A and B hold, is so of some version where it was, or where these hold
+some-version-after : {P P′ : VersionNumber → Type 0} {A B : Type 0} (n : VersionNumber) → ((i : VersionNumber) → P′ i ↔ (P i ⊎ (A × B × (i ≡ n))))
+    → ((i : VersionNumber) × P′ i) ↔ (((i : VersionNumber) × P i) ⊎ (A × B))
+some-version-after {P} {P′} {A} {B} n is = (λ (i, x). out i (is i .0 x), back)
+  where
+    out : (i : VersionNumber) → P i ⊎ (A × B × (i ≡ n)) → ((i : VersionNumber) × P i) ⊎ (A × B)
+    out i (inl x) = inl (i, x)
+    out i (inr (a, b, _)) = inr (a, b)
+
+    back : ((i : VersionNumber) × P i) ⊎ (A × B) → (i : VersionNumber) × P′ i
+    back (inl (i, x)) = (i, is i .1 (inl x))
+    back (inr (a, b)) = (n, is n .1 (inr (a, b, refl)))
+
 module _ (s : Store) (u : View) (c : Commit) (m : Made s u c) where
-  abbrev H : History
-  H = history s
+  pub keys-after : update s u c .keys ≡ s .keys
+  unfolding update
+  keys-after = refl
 
-  abbrev H′ : History
-  H′ = history (update s u c)
+  pub number-after : nextNumber (update s u c) ≡ suc (nextNumber s)
+  unfolding update
+  number-after = refl
 
-  abbrev me : CommitNumber
-  me = nextNumber s
+  pub sound-after : SoundStore (update s u c)
+  sound-after = sound-update s u c (m .sound) (m .fits .read-keys) (m .fits .write-keys)
 
   -- the version that the commit reads is there
   pub read-exists : (k : Key) → T (reads c k) → newest u k < count s k
@@ -71,104 +89,96 @@ module _ (s : Store) (u : View) (c : Commit) (m : Made s u c) where
       m .view .exist k (newest u k) (has-highest (u k) (omega (arith, pow-pos 0)) (m .view .word k))
 
   -- versions and their writers, and their readers
-  pub wrote-after : (t k i : ℕ) → Wrote (update s u c) t k i ↔ (Wrote s t k i ⊎ ((t ≡ me) × T (writes c k) × (i ≡ count s k)))
+  pub wrote-after : (t k i : ℕ) → Wrote (update s u c) t k i ↔ (Wrote s t k i ⊎ ((t ≡ nextNumber s) × T (writes c k) × (i ≡ count s k)))
   wrote-after = wrote-update-is s u c
 
-  pub read-after : (t k i : ℕ) → Read (update s u c) t k i ↔ (Read s t k i ⊎ ((t ≡ me) × T (reads c k) × (i ≡ newest u k)))
+  pub read-after : (t k i : ℕ) → Read (update s u c) t k i ↔ (Read s t k i ⊎ ((t ≡ nextNumber s) × T (reads c k) × (i ≡ newest u k)))
   read-after = read-update-is s u c read-exists
 
   -- the new number is no commit of the store before
-  pub stored-not-new : {t : CommitNumber} → Stored H t → t ≢ me
-  stored-not-new {t} x e = let l : t < me = stored-below s (m .sound) t x in omega arith
+  pub stored-not-new : {t : CommitNumber} → Stored (history s) t → t ≢ nextNumber s
+  stored-not-new {t} x e = let l : t < nextNumber s = stored-below s (m .sound) t x in omega arith
 
-  pub new-not-stored : ¬ Stored H me
+  pub new-not-stored : ¬ Stored (history s) (nextNumber s)
   new-not-stored x = stored-not-new x refl
 
   -- writers and readers of a key
-  pub writer-of-after : (k t : ℕ) → WriterOf H′ k t ↔ (WriterOf H k t ⊎ ((t ≡ me) × T (writes c k)))
-  writer-of-after k t = (λ (i, w). out i (wrote-after t k i .0 w), back)
-    where
-      out : (i : ℕ) → Wrote s t k i ⊎ ((t ≡ me) × T (writes c k) × (i ≡ count s k)) → WriterOf H k t ⊎ ((t ≡ me) × T (writes c k))
-      out i (inl w) = inl (i, w)
-      out i (inr (e, w, _)) = inr (e, w)
-      back : WriterOf H k t ⊎ ((t ≡ me) × T (writes c k)) → WriterOf H′ k t
-      back (inl (i, w)) = (i, wrote-after t k i .1 (inl w))
-      back (inr (e, w)) = (count s k, wrote-after t k (count s k) .1 (inr (e, w, refl)))
+  pub writer-of-after : (k t : ℕ) → WriterOf (after s u c) k t ↔ (WriterOf (history s) k t ⊎ ((t ≡ nextNumber s) × T (writes c k)))
+  writer-of-after k t = some-version-after (count s k) (wrote-after t k)
 
-  pub reader-of-after : (k t : ℕ) → ReaderOf H′ k t ↔ (ReaderOf H k t ⊎ ((t ≡ me) × T (reads c k)))
-  reader-of-after k t = (λ (i, r). out i (read-after t k i .0 r), back)
-    where
-      out : (i : ℕ) → Read s t k i ⊎ ((t ≡ me) × T (reads c k) × (i ≡ newest u k)) → ReaderOf H k t ⊎ ((t ≡ me) × T (reads c k))
-      out i (inl r) = inl (i, r)
-      out i (inr (e, r, _)) = inr (e, r)
-      back : ReaderOf H k t ⊎ ((t ≡ me) × T (reads c k)) → ReaderOf H′ k t
-      back (inl (i, r)) = (i, read-after t k i .1 (inl r))
-      back (inr (e, r)) = (newest u k, read-after t k (newest u k) .1 (inr (e, r, refl)))
+  pub reader-of-after : (k t : ℕ) → ReaderOf (after s u c) k t ↔ (ReaderOf (history s) k t ⊎ ((t ≡ nextNumber s) × T (reads c k)))
+  reader-of-after k t = some-version-after (newest u k) (read-after t k)
 
   -- writers of some key
-  pub writer-after : (t : CommitNumber) → Writer H′ t ↔ (Writer H t ⊎ ((t ≡ me) × Writes c))
+  pub writer-after : (t : CommitNumber) → Writer (after s u c) t ↔ (Writer (history s) t ⊎ ((t ≡ nextNumber s) × Writes c))
   writer-after t = (λ (k, w). out k (writer-of-after k t .0 w), back)
     where
-      out : (k : Key) → WriterOf H k t ⊎ ((t ≡ me) × T (writes c k)) → Writer H t ⊎ ((t ≡ me) × Writes c)
+      out : (k : Key) → WriterOf (history s) k t ⊎ ((t ≡ nextNumber s) × T (writes c k)) → Writer (history s) t ⊎ ((t ≡ nextNumber s) × Writes c)
       out k (inl w) = inl (k, w)
       out k (inr (e, w)) = inr (e, (k, w))
-      back : Writer H t ⊎ ((t ≡ me) × Writes c) → Writer H′ t
+
+      back : Writer (history s) t ⊎ ((t ≡ nextNumber s) × Writes c) → Writer (after s u c) t
       back (inl (k, w)) = (k, writer-of-after k t .1 (inl w))
       back (inr (e, (k, w))) = (k, writer-of-after k t .1 (inr (e, w)))
 
   -- commits in the store: the new one exactly if it has an operation
-  pub stored-after : (t : CommitNumber) → Stored H′ t ↔ (Stored H t ⊎ ((t ≡ me) × Operates c))
+  pub stored-after : (t : CommitNumber) → Stored (after s u c) t ↔ (Stored (history s) t ⊎ ((t ≡ nextNumber s) × Operates c))
   stored-after t = (out, back)
     where
-      written : (k i : ℕ) → Wrote s t k i ⊎ ((t ≡ me) × T (writes c k) × (i ≡ count s k)) → Stored H t ⊎ ((t ≡ me) × Operates c)
+      written : (k i : ℕ) → Wrote s t k i ⊎ ((t ≡ nextNumber s) × T (writes c k) × (i ≡ count s k)) → Stored (history s) t ⊎ ((t ≡ nextNumber s) × Operates c)
       written k i (inl w) = inl (as-writer {k = k} {i = i} w)
       written k i (inr (e, w, _)) = inr (e, (k, inr w))
-      read : (k i : ℕ) → Read s t k i ⊎ ((t ≡ me) × T (reads c k) × (i ≡ newest u k)) → Stored H t ⊎ ((t ≡ me) × Operates c)
+
+      read : (k i : ℕ) → Read s t k i ⊎ ((t ≡ nextNumber s) × T (reads c k) × (i ≡ newest u k)) → Stored (history s) t ⊎ ((t ≡ nextNumber s) × Operates c)
       read k i (inl r) = inl (as-reader {k = k} {i = i} r)
       read k i (inr (e, r, _)) = inr (e, (k, inl r))
-      out : Stored H′ t → Stored H t ⊎ ((t ≡ me) × Operates c)
+
+      out : Stored (after s u c) t → Stored (history s) t ⊎ ((t ≡ nextNumber s) × Operates c)
       out (as-writer {k} {i} w) = written k i (wrote-after t k i .0 w)
       out (as-reader {k} {i} r) = read k i (read-after t k i .0 r)
-      back : Stored H t ⊎ ((t ≡ me) × Operates c) → Stored H′ t
+
+      back : Stored (history s) t ⊎ ((t ≡ nextNumber s) × Operates c) → Stored (after s u c) t
       back (inl (as-writer {k} {i} w)) = as-writer {k = k} {i = i} (wrote-after t k i .1 (inl w))
       back (inl (as-reader {k} {i} r)) = as-reader {k = k} {i = i} (read-after t k i .1 (inl r))
       back (inr (e, (k, inl r))) = as-reader {k = k} (reader-of-after k t .1 (inr (e, r)) .1)
       back (inr (e, (k, inr w))) = as-writer {k = k} (writer-of-after k t .1 (inr (e, w)) .1)
 
-  pub appears-after : (t : CommitNumber) → Appears (update s u c) t ↔ (Appears s t ⊎ ((t ≡ me) × Operates c))
+  pub appears-after : (t : CommitNumber) → Appears (update s u c) t ↔ (Appears s t ⊎ ((t ≡ nextNumber s) × Operates c))
   appears-after t = both (appears-stored (update s u c) t) (both (stored-after t) (out, back))
     where
-      out : Stored H t ⊎ ((t ≡ me) × Operates c) → Appears s t ⊎ ((t ≡ me) × Operates c)
+      out : Stored (history s) t ⊎ ((t ≡ nextNumber s) × Operates c) → Appears s t ⊎ ((t ≡ nextNumber s) × Operates c)
       out (inl x) = inl (appears-stored s t .1 x)
       out (inr x) = inr x
-      back : Appears s t ⊎ ((t ≡ me) × Operates c) → Stored H t ⊎ ((t ≡ me) × Operates c)
+
+      back : Appears s t ⊎ ((t ≡ nextNumber s) × Operates c) → Stored (history s) t ⊎ ((t ≡ nextNumber s) × Operates c)
       back (inl x) = inl (appears-stored s t .0 x)
       back (inr x) = inr x
 
   -- the tables: older commits keep their client and session number
-  pub client-kept : {t : CommitNumber} → t ≢ me → H′ .clientOf t ≡ H .clientOf t
+  pub client-kept : {t : CommitNumber} → t ≢ nextNumber s → update s u c .clientOf t ≡ s .clientOf t
   unfolding update
-  client-kept {t} n = at-other me (c .client) (s .clientOf) t n
+  client-kept {t} n = at-other (nextNumber s) (c .client) (s .clientOf) t n
 
-  pub client-new : H′ .clientOf me ≡ c .client
+  pub client-new : update s u c .clientOf (nextNumber s) ≡ c .client
   unfolding update
-  client-new = at-same me (c .client) (s .clientOf)
+  client-new = at-same (nextNumber s) (c .client) (s .clientOf)
 
-  pub session-kept : {t : CommitNumber} → t ≢ me → H′ .sessionOf t ≡ H .sessionOf t
+  pub session-kept : {t : CommitNumber} → t ≢ nextNumber s → update s u c .sessionOf t ≡ s .sessionOf t
   unfolding update
-  session-kept {t} n = at-other me (c .session) (s .sessionOf) t n
+  session-kept {t} n = at-other (nextNumber s) (c .session) (s .sessionOf) t n
 
-  pub session-new : H′ .sessionOf me ≡ c .session
+  pub session-new : update s u c .sessionOf (nextNumber s) ≡ c .session
   unfolding update
-  session-new = at-same me (c .session) (s .sessionOf)
+  session-new = at-same (nextNumber s) (c .session) (s .sessionOf)
 
   -- the commits of a client
-  pub commit-by-after : (d : Client) (t : CommitNumber) → CommitBy H′ d t ↔ (CommitBy H d t ⊎ ((t ≡ me) × Operates c × (c .client ≡ d)))
+  pub commit-by-after : (d : Client) (t : CommitNumber) → CommitBy (after s u c) d t ↔ (CommitBy (history s) d t ⊎ ((t ≡ nextNumber s) × Operates c × (c .client ≡ d)))
   commit-by-after d t = (λ (x, p, e). out p e (stored-after t .0 x), back)
     where
-      out : 0 < t → H′ .clientOf t ≡ d → Stored H t ⊎ ((t ≡ me) × Operates c) → CommitBy H d t ⊎ ((t ≡ me) × Operates c × (c .client ≡ d))
+      out : 0 < t → update s u c .clientOf t ≡ d → Stored (history s) t ⊎ ((t ≡ nextNumber s) × Operates c) → CommitBy (history s) d t ⊎ ((t ≡ nextNumber s) × Operates c × (c .client ≡ d))
       out p e (inl x) = inl (x, p, sym (client-kept (stored-not-new x)) ∙ e)
-      out p e (inr (q, o)) = inr (q, o, sym client-new ∙ ap (H′ .clientOf) (sym q) ∙ e)
-      back : CommitBy H d t ⊎ ((t ≡ me) × Operates c × (c .client ≡ d)) → CommitBy H′ d t
+      out p e (inr (q, o)) = inr (q, o, sym client-new ∙ ap (update s u c .clientOf) (sym q) ∙ e)
+
+      back : CommitBy (history s) d t ⊎ ((t ≡ nextNumber s) × Operates c × (c .client ≡ d)) → CommitBy (after s u c) d t
       back (inl (x, p, e)) = (stored-after t .1 (inl x), p, client-kept (stored-not-new x) ∙ e)
-      back (inr (q, o, e)) = (stored-after t .1 (inr (q, o)), omega arith, ap (H′ .clientOf) q ∙ client-new ∙ e)
+      back (inr (q, o, e)) = (stored-after t .1 (inr (q, o)), omega arith, ap (update s u c .clientOf) q ∙ client-new ∙ e)
