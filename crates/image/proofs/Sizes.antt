@@ -1,21 +1,21 @@
 -- How long the image and its parts are: by the store, by the judge's full masks, and "At most 16,960 bytes". Assumes nothing.
 use Prim.Native.Nat.{ℕ, zero, suc, _+_, _*_, _≤_, _<_}
-use mathlib.Core.Path.{_≡_, refl, sym, ap, _∙_}
+use mathlib.Core.Path.{_≡_, refl, ap, _∙_}
 use mathlib.Core.Logic.{⊎-elim}
-use mathlib.Core.List.{List, _++_}
+use mathlib.Core.List.{List}
 use native.Mathlib.Omega.{arith}
 use native.Mathlib.Nat.{le-of-suc-le-suc, eq-or-lt-of-le}
 use lib.Count.{ones, ones-ones}
 use lib.ListN.{length, getD, length-append}
 use Rattle.sets.specs.Set.{below}
-use Rattle.endian.specs.Endian.{leBytes, pieces}
+use Rattle.endian.specs.Endian.{pieces}
 use Rattle.endian.proofs.Laws.{length-leBytes, length-pieces}
 use Rattle.store.specs.Limits.{maxKeys, maxCommits}
 use Rattle.store.specs.Store.{Key, CommitNumber, Version, Store, count, version}
 use Rattle.store.specs.Image.{versionBytes, commitBytes, keyBytes, imageBody, image}
 use Rattle.store.proofs.Sound.{SoundStore}
 use Rattle.state.specs.Keeps.{KeepsKeys}
-use Rattle.image.specs.Parts.{keysSize, wholeSize}
+use Rattle.image.specs.Parts.{mostBytes, keysSize, wholeSize}
 
 -- ---- the parts
 
@@ -80,5 +80,5 @@ module _ (s : Store) (sound : SoundStore s) (commits : s .commits ≤ maxCommits
   keys-most zero = omega arith
   keys-most (suc n) = simp (length-append, length-key) (omega (arith, keys-most n, sound .few n))
 
-  pub length-most : s .keys ≤ maxKeys → length (image s) ≤ 16960
+  pub length-most : s .keys ≤ maxKeys → length (image s) ≤ mostBytes
   length-most keys = omega (arith, length-image s, keys-most (s .keys))

@@ -1,13 +1,14 @@
 -- Parts put one after the other: piece by piece in a loop, and the parts of the image. Assumes nothing.
-use Prim.Native.Nat.{ℕ, suc, _+_, _*_, _≤_, _<_}
+use Prim.Native.Nat.{ℕ, suc, _+_, _-_, _*_, _≤_, _<_}
 use mathlib.Core.Path.{_≡_, refl, sym, ap, _∙_}
 use mathlib.Core.List.{List, _++_, append-assoc}
 use native.Mathlib.Omega.{arith}
 use native.Mathlib.Numerals.{add-one}
-use lib.ListN.{length, length-append}
+use lib.ListN.{length, take, drop, length-append}
+use borrow.Rule.Slice.PartMut.{putMid}
 use Rattle.endian.specs.Endian.{leBytes, putAt, pieces}
 use Rattle.endian.proofs.Laws.{length-leBytes}
-use Rattle.endian.proofs.Put.{put-then}
+use Rattle.endian.proofs.Put.{put-then, part-back}
 use Rattle.store.specs.Store.{Store}
 use Rattle.store.specs.Image.{commitBytes, keyBytes, imageBody, image}
 use Rattle.image.specs.Parts.{headBytes}
@@ -30,6 +31,16 @@ unfolding pieces
 put-piece d at i w f {present} stands long room put is =
     put-next d at w (at + w) (pieces i f) (f i) stands long refl room (put ∙ ap (λ l. putAt present (at + w) l) is)
     ∙ ap (λ j. putAt d at (pieces j f)) (sym (add-one i))
+
+-- the same where the part from the end of the pieces on was lent, and came back with the piece at its start
+pub put-lent : (d : List ℕ) (start k w at : ℕ) (f : ℕ → List ℕ) {present part : List ℕ}
+    → present ≡ putAt d start (pieces k f) → length (pieces k f) ≡ w → at ≡ start + w → at ≤ length d → at + length (f k) ≤ length present
+    → part ≡ putAt (take (length present - at) (drop at present)) 0 (f k)
+    → putMid at (length present - at) present part ≡ putAt d start (pieces (k + 1) f)
+put-lent d start k w at f {present} stands long end within room back =
+    put-piece d start k w f stands long (omega arith)
+    (ap (putMid at (length present - at) present) back ∙ part-back present at (f k) room ∙ ap (λ p. putAt present p (f k)) end)
+    refl
 
 -- ---- the first 8 bytes
 

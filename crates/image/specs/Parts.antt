@@ -8,6 +8,10 @@ use Rattle.endian.specs.Endian.{leBytes}
 use Rattle.store.specs.Store.{CommitNumber, Store}
 use Rattle.state.specs.Places.{fullPlace}
 
+-- "At most 16,960 bytes"
+abbrev pub mostBytes : ℕ
+mostBytes = 16960
+
 -- "u32 length, keys u8, commits u8, two zeros"
 abbrev pub headBytes : ℕ → ℕ → ℕ → List ℕ
 headBytes whole n commits = leBytes 4 whole ++ (leBytes 1 n ++ (leBytes 1 commits ++ leBytes 2 0))

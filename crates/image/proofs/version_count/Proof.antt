@@ -1,16 +1,13 @@
+-- `image::version_count` meets its contract: a word has at most 64 ones. Assumes nothing.
 use mathlib.Core.Path.{refl}
 use native.Mathlib.Omega.{arith}
 use lib.Count.{ones-le}
 use Rattle.image.proofs.version_count.Statement.{statement}
 use Rattle.image.proofs.version_count.Tie as tie
-use Rattle.image.proofs.version_count.Reads as reads
-use Rattle.image.proofs.version_count.Lts as lts
 
--- src/lib.rt:24:5
 cast-result : tie.Need-cast-result
 cast-result c = omega (arith, ones-le 64 (c .args .full) (c .fits .full .fits))
 
--- src/lib.rt:21:1
 returns : tie.Need-returns
 returns c = (refl, ones-le 64 (c .args .full) (c .fits .full .fits))
 
