@@ -333,3 +333,36 @@ module _ (s : Store) (u : View) (c : Commit) (m : Made s u c) where
             let third : getD written (2 * numbers + t) 0 ≡ y = ap (λ (n : ℕ). getD written (2 * numbers + n) 0) e ∙ three-third l (nextNumber s) (numbers + nextNumber s) (2 * numbers + nextNumber s) word x y apart-rows in
             moved _ _ third (subst (λ (n : ℕ). IsSet y (λ w. ReadUpTo (history (update s u c)) w n)) (sym e)
               (isSet-as y (λ w. both (split w) (new-read s u c m w)) drawn))
+
+-- ---- the same with the numbers that the code has
+
+module _ (s : Store) (u : View) (c : Commit) (m : Made s u c) (n d v : ℕ) (number : nextNumber s ≡ n) (client : c .client ≡ d) (session : c .session ≡ v)
+    (b : d < maxClients) (few : n < numbers) (sources : ℕ) (from : IsSet sources (FromRead s u c)) (l r : List ℕ) (h : KeepsSessions s l) (x y : ℕ)
+    (ex : x ≡ insert n (getD l d 0)) (ey : y ≡ union (getD l (maxClients + d) 0) sources) (o : Operates c) where
+  pub sessions-settled : KeepsSessions (update s u c) (three l d (maxClients + d) (2 * maxClients + d) x y (v + 1))
+  sessions-settled =
+      subst (λ (q : ℕ). KeepsSessions (update s u c) (three l d (maxClients + d) (2 * maxClients + d) q y (v + 1))) (ap (λ (i : ℕ). insert i (getD l d 0)) number ∙ sym ex)
+      (subst (λ (q : ℕ). KeepsSessions (update s u c) (three l d (maxClients + d) (2 * maxClients + d) (insert (nextNumber s) (getD l d 0)) q (v + 1))) (sym ey)
+      (subst (λ (q : ℕ). KeepsSessions (update s u c) (three l d (maxClients + d) (2 * maxClients + d) (insert (nextNumber s) (getD l d 0)) (union (getD l (maxClients + d) 0) sources) (q + 1))) session
+      (busy-sessions s u c m l h d client b o sources from)))
+
+  pub commits-settled : KeepsCommits s r → KeepsCommits (update s u c) (three r n (numbers + n) (2 * numbers + n) (packed d v) (getD l d 0) y)
+  commits-settled k =
+      let commits-of = subst (λ (e : ℕ). IsSet (getD l d 0) (CommitOf s e)) (sym client) (h .commits-of d b) in
+      let drawn : IsSet y (λ w. ReadByClient (history s) (c .client) w ⊎ FromRead s u c w) =
+          subst (λ (q : ℕ). IsSet q (λ w. ReadByClient (history s) (c .client) w ⊎ FromRead s u c w)) (sym ey)
+          (isSet-union (getD l (maxClients + d) 0) sources (subst (λ (e : ℕ). IsSet (getD l (maxClients + d) 0) (ReadByClient (history s) e)) (sym client) (h .drawn d b)) from) in
+      let less : nextNumber s < numbers = omega arith in
+      subst (λ (q : ℕ). KeepsCommits (update s u c) (three r q (numbers + q) (2 * numbers + q) (packed d v) (getD l d 0) y)) number
+      (subst (λ (q : ℕ). KeepsCommits (update s u c) (three r (nextNumber s) (numbers + nextNumber s) (2 * numbers + nextNumber s) (packed q v) (getD l d 0) y)) client
+      (subst (λ (q : ℕ). KeepsCommits (update s u c) (three r (nextNumber s) (numbers + nextNumber s) (2 * numbers + nextNumber s) (packed (c .client) q) (getD l d 0) y)) session
+      (busy-commits s u c m less r k o (getD l d 0) y commits-of drawn)))
+
+pub commits-idle : (s : Store) (u : View) (c : Commit) → Made s u c → (n d v : ℕ) → nextNumber s ≡ n → c .client ≡ d → c .session ≡ v → n < numbers → ¬ Operates c
+    → (r : List ℕ) → KeepsCommits s r → KeepsCommits (update s u c) (set r n (packed d v))
+commits-idle s u c m n d v number client session few idle r k =
+    let less : nextNumber s < numbers = omega arith in
+    subst (λ (q : ℕ). KeepsCommits (update s u c) (set r q (packed d v))) number
+    (subst (λ (q : ℕ). KeepsCommits (update s u c) (set r (nextNumber s) (packed q v))) client
+    (subst (λ (q : ℕ). KeepsCommits (update s u c) (set r (nextNumber s) (packed (c .client) q))) session
+    (idle-commits s u c m idle less r k)))
