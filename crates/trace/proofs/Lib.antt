@@ -4,3 +4,4 @@ pub mod Tests
 pub mod Decoded
 pub mod EncodeBytes
 pub mod RoundTrip
+pub mod InForm

@@ -61,3 +61,7 @@ withinLimits-is h =
       λ t. let (a, b, c, d) = tests .0 t in (ltb→lt _ _ a, leb→le _ _ b, ltb→lt _ _ c, leb→le _ _ d),
       λ l. tests .1 (lt→ltb _ _ (l .0), le→leb _ _ (l .1), lt→ltb _ _ (l .2), le→leb _ _ (l .3)),
     )
+
+-- once the other three hold, it is the test of the clients
+pub withinLimits-last : (h : Header) → 1 ≤ h .keys → h .keys ≤ maxKeys → 1 ≤ h .clients → leb (h .clients) maxClients ≡ withinLimits h
+withinLimits-last h some-key few-keys some-client = rw (lt-ltb _ _ some-key, le-leb _ _ few-keys, lt-ltb _ _ some-client)

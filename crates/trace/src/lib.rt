@@ -1,3 +1,4 @@
 // "The trace file" (01): its records read one by one, the form of a whole file (codes 1 to 8), and what stands in a record.
 // See specs/ for what a file means.
 pub mod records; // records.rt: one record, read whole or refused
+pub mod form; // form.rt: the form of a whole file
