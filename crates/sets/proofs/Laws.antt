@@ -3,7 +3,7 @@ use mathlib.Core.Path.{_≡_, refl, sym, ap, _∙_, subst}
 use mathlib.Core.Bool.{Bool}
 use mathlib.Core.Logic.{_⊎_, inl, inr}
 use Prim.Native.Nat.{ℕ, zero, suc, _+_, _-_, _*_, _/_, _%_, _^_, _≤_, _<_, max}
-use native.Mathlib.Nat.{div-eq-of-lt, mul-div-cancel, div-eq-of-lt-le, pow-suc}
+use native.Mathlib.Nat.{div-self, div-eq-of-lt, mul-div-cancel, div-eq-of-lt-le, pow-suc}
 use native.Mathlib.Omega.{arith}
 use native.Mathlib.Decide.{decLt, decLe}
 use lib.Dec.{T, eqb, eqb→eq}
@@ -76,6 +76,12 @@ insert-has t m i h = go (digit m i) refl
     go : (x : ℕ) → digit m i ≡ x → T (has m i) ⊎ (i ≡ t)
     go zero e = inr (only t i (eq-test (digit (2 ^ t) i) 1 (omega (arith, d))))
     go (suc x) e = inl (eq-test (digit m i) 1 (omega (arith, digit-small m i)))
+
+pub insert-itself : (t m : ℕ) → T (has (insert t m) t)
+insert-itself t m =
+    let one : 2 ^ t / 2 ^ t ≡ 1 = div-self (pow-pos t) in
+    let here : digit (2 ^ t) t ≡ 1 = rw one refl in
+    eq-test _ 1 (digit-or m (2 ^ t) t ∙ omega (arith, digit-small m t))
 
 pub has-insert : (t m i : ℕ) → T (has m i) → T (has (insert t m) i)
 has-insert t m i h = eq-test _ 1 (digit-or m (2 ^ t) i ∙ (let e : digit m i ≡ 1 = eqb→eq _ 1 h in omega (arith, digit-small (2 ^ t) i)))

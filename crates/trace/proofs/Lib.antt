@@ -5,3 +5,5 @@ pub mod Decoded
 pub mod EncodeBytes
 pub mod RoundTrip
 pub mod InForm
+pub mod Filled
+pub mod Ranks

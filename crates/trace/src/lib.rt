@@ -2,3 +2,4 @@
 // See specs/ for what a file means.
 pub mod records; // records.rt: one record, read whole or refused
 pub mod form; // form.rt: the form of a whole file
+pub mod contents; // contents.rt: the masks and operations of a record
