@@ -95,24 +95,27 @@ module _ (ranks rank v : ℕ) (values : List ℕ) where
 
 -- ---- all operations so far
 
--- the first i of the m operations from `start` on are sorted, into the set of their ranks and the values at these
-pub record Sorted (s : List ℕ) (start keys m i ranks : ℕ) (values : List ℕ) : Type 0 where
+-- the first i of the m operations from `start` on are sorted, into the set of their ranks and the values at these;
+-- the values at other ranks are those from before
+pub record Sorted (s : List ℕ) (start keys m : ℕ) (before : List ℕ) (i ranks : ℕ) (values : List ℕ) : Type 0 where
   pub by-rank : (a : Access) (k : ℕ) → valueOf a (operationsAt s start i) k ≡ when (has ranks (2 * k + accessNumber a)) (getD values (2 * k + accessNumber a) 0)
+  pub kept : (q : ℕ) → ¬ T (has ranks q) → getD values q 0 ≡ getD before q 0
   pub low : ℕ
   pub ranks-below : (r : ℕ) → T (has ranks r) → r < low
   pub others-fit : operationsFit s (start + 8 * i) keys low (m - i) ≡ true
 
-pub sorted-none : (s : List ℕ) (start keys m : ℕ) (values : List ℕ) → operationsFit s start keys 0 m ≡ true → Sorted s start keys m 0 0 values
+pub sorted-none : (s : List ℕ) (start keys m : ℕ) (values : List ℕ) → operationsFit s start keys 0 m ≡ true → Sorted s start keys m values 0 0 values
 unfolding operationsAt valueOf
 sorted-none s start keys m values fit = record {
   by-rank = λ a k. sym (when-none _ _ .1 (has-none (2 * k + accessNumber a)));
+  kept = λ q out. refl;
   low = 0;
   ranks-below = λ r t. absurd (has-none r t);
   others-fit = rw (mul-zero 8, add-zero start, sub-zero m) fit;
 }
 
 -- the next operation fits, and so do those behind it
-module _ {s : List ℕ} {start keys m i ranks : ℕ} {values : List ℕ} (h : Sorted s start keys m i ranks values) (more : i < m) where
+module _ {s : List ℕ} {start keys m i ranks : ℕ} {before values : List ℕ} (h : Sorted s start keys m before i ranks values) (more : i < m) where
   abbrev at : ℕ
   at = start + 8 * i
 
@@ -143,11 +146,14 @@ module _ {s : List ℕ} {start keys m i ranks : ℕ} {values : List ℕ} (h : So
       ∙ ap (λ x. orElse (when (has ranks q) (getD values q 0)) x) last
       ∙ put-value ranks (rankAt s at) (leAt s (at + 4) 4) values new (omega arith) q
 
-  pub sorted-more : 2 * keys ≤ length values → Sorted s start keys m (i + 1) (insert (rankAt s at) ranks) (set values (rankAt s at) (leAt s (at + 4) 4))
+  pub sorted-more : 2 * keys ≤ length values → Sorted s start keys m before (i + 1) (insert (rankAt s at) ranks) (set values (rankAt s at) (leAt s (at + 4) 4))
   sorted-more long =
       let (access, key, zeros, rises) = next-fits in
       let place : start + 8 * i + 8 ≡ start + 8 * (i + 1) = omega arith in record {
         by-rank = next-by-rank long;
+        kept = λ q out.
+          getD-set-other values (rankAt s at) q (leAt s (at + 4) 4) 0 (λ e. out (rw e (insert-itself (rankAt s at) ranks)))
+          ∙ h .kept q (λ t. out (has-insert (rankAt s at) ranks q t));
         low = suc (rankAt s at);
         ranks-below = λ r t. ⊎-elim (λ old. let below = h .ranks-below r old in omega arith) (λ e. omega arith) (insert-has (rankAt s at) ranks r t);
         others-fit = ap (λ p. operationsFit s p keys (suc (rankAt s at)) (m - (i + 1))) (sym place) ∙ T-true _ (next-and-others .1);
@@ -155,7 +161,7 @@ module _ {s : List ℕ} {start keys m i ranks : ℕ} {values : List ℕ} (h : So
 
   -- the same in the words of the code, which sets the bit of the rank by a shift
   pub sorted-turn : keys ≤ maxKeys → 2 * maxKeys ≤ length values → {rank v : ℕ} → rank ≡ rankAt s at → v ≡ leAt s (at + 4) 4
-      → Sorted s start keys m (i + 1) (bitOr ranks (1 * 2 ^ rank % 2 ^ 64)) (set values rank v)
+      → Sorted s start keys m before (i + 1) (bitOr ranks (1 * 2 ^ rank % 2 ^ 64)) (set values rank v)
   sorted-turn few long {rank} {v} r e =
       let (access, key, zeros, rises) = next-fits in
       let bit : 1 * 2 ^ rank % 2 ^ 64 ≡ 2 ^ rank = shl-exact 1 rank 64 (lit< tt) (omega arith) ∙ one-mul (2 ^ rank) in

@@ -2,6 +2,7 @@
 ghost use mathlib.Core.Path.{_≡_};
 ghost use mathlib.Core.Bool.{true};
 ghost use Prim.Native.Nat.{ℕ, _+_, _*_, _≤_, _<_};
+ghost use lib.Dec.{T};
 ghost use lib.ListN.{length, getD};
 ghost use Rattle.search.specs.Choose.{when};
 ghost use Rattle.sets.specs.Set.{has};
@@ -26,10 +27,11 @@ pub fn masks_into(s: &[u8], start: usize, masks: &mut [u64], n: usize)
 }
 
 // The operations of a commit, sorted by their rank 2 * key + access ("by key and then kind, a read before a write"): answers the set
-// of their ranks, and the element of `values` at each of these becomes the operation's value.
+// of their ranks, and the element of `values` at each of these becomes the operation's value; the others stay.
 pub fn sort_operations(s: &[u8], start: usize, m: usize, values: &mut [u64]) -> u64
     requires { ⌜ (start + 8 * m ≤ length (now s)) × (2 * maxKeys ≤ length (now values)) × ((keys : ℕ) × (keys ≤ maxKeys) × (operationsFit (now s) start keys 0 m ≡ true)) ⌝ }
-    ensures { λ r. ⌜ ((a : Access) (k : ℕ) → valueOf a (operationsAt (now (s .entry)) start m) k ≡ when (has r (2 * k + accessNumber a)) (getD (now (values .exit)) (2 * k + accessNumber a) 0)) ⌝ }
+    ensures sorted { λ r. ⌜ ((a : Access) (k : ℕ) → valueOf a (operationsAt (now (s .entry)) start m) k ≡ when (has r (2 * k + accessNumber a)) (getD (now (values .exit)) (2 * k + accessNumber a) 0)) ⌝ }
+    ensures kept { λ r. ⌜ ((q : ℕ) → ¬ T (has r q) → getD (now (values .exit)) q 0 ≡ getD (now (values .entry)) q 0) ⌝ }
 {
     let mut ranks: u64 = 0;
     let mut i: usize = 0;

@@ -1,3 +1,4 @@
+-- `trace::contents::masks_into` meets its contract: the masks passed are filled in, and the others are as they were. Assumes nothing.
 use denote.Ref.{now}
 use borrow.Author.Needs.{needs}
 use Prim.Native.Nat.{_+_, _-_, _*_, _≤_}
@@ -8,9 +9,6 @@ use Rattle.endian.specs.Endian.{leAt}
 use Rattle.trace.proofs.Filled.{Filled, filled-none, filled-more}
 use Rattle.trace.proofs.contents.masks_into.Statement.{statement}
 use Rattle.trace.proofs.contents.masks_into.Tie as tie
-use Rattle.trace.proofs.contents.masks_into.Reads as reads
-use Rattle.trace.proofs.contents.masks_into.Lts as lts
-use Rattle.endian.proofs.u64_at.Reads as u64-at-reads
 
 abbrev Inv-loop : tie.InvT-loop
 Inv-loop s start masks₀ n i₀ masks i = (i ≤ n) × Filled (λ k. leAt s (start + 8 * k) 8) masks₀ i masks
@@ -18,50 +16,39 @@ Inv-loop s start masks₀ n i₀ masks i = (i ≤ n) × Filled (λ k. leAt s (st
 abbrev μ-loop : tie.MeasureT-loop
 μ-loop s start masks₀ n i₀ masks i = n - i
 
--- src/contents.rt:22:5
 loop-holds : tie.Need-loop-holds Inv-loop μ-loop
 loop-holds c = (omega arith, filled-none _ _)
 
--- src/contents.rt:23:46
 mul-u64-at : tie.Need-mul-u64-at Inv-loop μ-loop
 mul-u64-at c = search needs
 
--- src/contents.rt:23:38
 add-u64-at : tie.Need-add-u64-at Inv-loop μ-loop
 add-u64-at c = search needs
 
--- src/contents.rt:23:20
 u64-at-requires : tie.Need-u64-at-requires Inv-loop μ-loop
 u64-at-requires c κs = search needs
 
--- src/contents.rt:23:9
 mul-masks : tie.Need-mul-masks Inv-loop μ-loop
 mul-masks c = search needs
 
--- src/contents.rt:23:9
 slice-write-masks : tie.Need-slice-write-masks Inv-loop μ-loop
 slice-write-masks c = search needs
 
--- src/contents.rt:24:13
 add-i : tie.Need-add-i Inv-loop μ-loop
 add-i c = search needs
 
--- src/contents.rt:22:5
 loop-less : tie.Need-loop-less Inv-loop μ-loop
 loop-less c = search needs
 
--- src/contents.rt:22:5
 loop-again : tie.Need-loop-again Inv-loop μ-loop
 loop-again c =
     let a = c .before .before .before .before .before .args in
     let l = c .before .before .loop in
     (omega arith, filled-more (λ k. leAt (now (a .s)) (a .start + 8 * k) 8) (now (a .masks)) (omega arith) (l .inv .1) (ap (set (l .masks) (l .i)) (c .u64-at .ensures)))
 
--- src/contents.rt:16:1
 same-length : tie.Need-same-length Inv-loop μ-loop
 same-length c = search needs
 
--- src/contents.rt:16:1
 returns : tie.Need-returns Inv-loop μ-loop
 returns c = let h = c .before .loop .inv .1 in (λ k less. h .filled k (omega arith), λ k more. h .kept k (omega arith))
 

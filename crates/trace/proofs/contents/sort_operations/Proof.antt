@@ -1,3 +1,4 @@
+-- `trace::contents::sort_operations` meets its contract: the operations passed are sorted, and the others fit. Assumes nothing.
 use Rattle.store.specs.Limits.{maxKeys}
 use borrow.Author.Needs.{needs}
 use Prim.Native.Nat.{ℕ, _+_, _-_, _*_, _^_, _≤_, _<_}
@@ -9,67 +10,50 @@ use Rattle.trace.specs.Format.{operationsFit}
 use Rattle.trace.proofs.Ranks.{Sorted, sorted-none, next-fits, sorted-more, sorted-turn}
 use Rattle.trace.proofs.contents.sort_operations.Statement.{statement}
 use Rattle.trace.proofs.contents.sort_operations.Tie as tie
-use Rattle.trace.proofs.contents.sort_operations.Reads as reads
-use Rattle.trace.proofs.contents.sort_operations.Lts as lts
-use Rattle.endian.proofs.byte_at.Reads as byte-at-reads
-use Rattle.endian.proofs.u32_at.Reads as u32-at-reads
 
 abbrev Inv-loop : tie.InvT-loop
 Inv-loop s start m values₀ ranks₀ i₀ values ranks i =
-    (i ≤ m) × (length values ≡ length values₀) × ((keys : ℕ) → keys ≤ maxKeys → operationsFit s start keys 0 m ≡ true → Sorted s start keys m i ranks values)
+    (i ≤ m) × (length values ≡ length values₀) × ((keys : ℕ) → keys ≤ maxKeys → operationsFit s start keys 0 m ≡ true → Sorted s start keys m values₀ i ranks values)
 
 abbrev μ-loop : tie.MeasureT-loop
 μ-loop s start m values₀ ranks₀ i₀ values ranks i = m - i
 
--- src/contents.rt:36:5
 loop-holds : tie.Need-loop-holds Inv-loop μ-loop
 loop-holds c = (omega arith, refl, λ keys few fit. sorted-none _ _ keys _ _ fit)
 
--- src/contents.rt:37:26
 mul-at : tie.Need-mul-at Inv-loop μ-loop
 mul-at c = search needs
 
--- src/contents.rt:37:18
 add-at : tie.Need-add-at Inv-loop μ-loop
 add-at c = search needs
 
--- src/contents.rt:38:43
 add-byte-at : tie.Need-add-byte-at Inv-loop μ-loop
 add-byte-at c = search needs
 
--- src/contents.rt:38:24
 byte-at-requires : tie.Need-byte-at-requires Inv-loop μ-loop
 byte-at-requires c κs = search needs
 
--- src/contents.rt:38:20
 mul-rank : tie.Need-mul-rank Inv-loop μ-loop
 mul-rank c = search needs
 
--- src/contents.rt:38:53
 byte-at-requires-2 : tie.Need-byte-at-requires-2 Inv-loop μ-loop
 byte-at-requires-2 c κs = search needs
 
--- src/contents.rt:38:20
 add-rank : tie.Need-add-rank Inv-loop μ-loop
 add-rank c = search needs
 
--- src/contents.rt:39:42
 add-u32-at : tie.Need-add-u32-at Inv-loop μ-loop
 add-u32-at c = search needs
 
--- src/contents.rt:39:24
 u32-at-requires : tie.Need-u32-at-requires Inv-loop μ-loop
 u32-at-requires c κs = search needs
 
--- src/contents.rt:39:24
 cast-values : tie.Need-cast-values Inv-loop μ-loop
 cast-values c = search needs
 
--- src/contents.rt:39:9
 mul-values : tie.Need-mul-values Inv-loop μ-loop
 mul-values c = search needs
 
--- src/contents.rt:39:9
 slice-write-values : tie.Need-slice-write-values Inv-loop μ-loop
 slice-write-values c =
     let l = c .before .before .before .before .loop in
@@ -78,7 +62,6 @@ slice-write-values c =
     let (access, key, zeros, rises) = next-fits (l .inv .2 keys few fit) (omega arith) in
     omega arith
 
--- src/contents.rt:40:26
 shl-ranks : tie.Need-shl-ranks Inv-loop μ-loop
 shl-ranks c =
     let l = c .before .before .before .before .loop in
@@ -87,15 +70,12 @@ shl-ranks c =
     let (access, key, zeros, rises) = next-fits (l .inv .2 keys few fit) (omega arith) in
     omega arith
 
--- src/contents.rt:41:13
 add-i : tie.Need-add-i Inv-loop μ-loop
 add-i c = search needs
 
--- src/contents.rt:36:5
 loop-less : tie.Need-loop-less Inv-loop μ-loop
 loop-less c = search needs
 
--- src/contents.rt:36:5
 loop-again : tie.Need-loop-again Inv-loop μ-loop
 loop-again c =
     let l = c .before .before .before .before .loop in
@@ -106,18 +86,17 @@ loop-again c =
       λ keys few fit. sorted-turn (l .inv .2 keys few fit) (omega arith) few (omega arith) (omega arith) (c .u32-at .ensures),
     )
 
--- src/contents.rt:30:1
 same-length : tie.Need-same-length Inv-loop μ-loop
 same-length c = search needs
 
--- src/contents.rt:30:1
 returns : tie.Need-returns Inv-loop μ-loop
 returns c =
     let l = c .before .loop in
     let start = c .before .before .before .before in
     let (keys, few, fit) = start .pre .2 in
     let all : l .i ≡ start .args .m = omega arith in
-    rw all at (l .inv .2 keys few fit .by-rank)
+    let h = l .inv .2 keys few fit in
+    (rw all at (h .by-rank), h .kept)
 
 pub sort-operations-spec : {M : Type 1} → statement M
 sort-operations-spec =
