@@ -8,7 +8,8 @@ use native.Mathlib.Decide.{decLt}
 use lib.Dec.{T}
 use Rattle.search.proofs.Tests.{T?}
 use Rattle.sets.specs.Set.{has, below}
-use Rattle.sets.proofs.Laws.{has-none, has-below, below-has, below-is}
+use Rattle.sets.proofs.Laws.{has-none, has-below, below-has}
+use Rattle.sets.proofs.Algebra.{full-is}
 use Rattle.dependencies.specs.History.{Holds}
 use Rattle.store.specs.Store.{Key, VersionNumber, CommitNumber, View, Store, count, version, nextNumber, Commit}
 use Rattle.store.specs.Update.{writes, update}
@@ -58,8 +59,8 @@ opening-not-lacking s h o v w ((k, (i, x)), n) = let l = h .only-keys k i (x .0)
 -- the masks of a full view
 pub full-mask : (s : Store) (v : View) → IsView s v → Full s v ↔ ((k : Key) → v k ≡ below (count s k))
 full-mask s v w = (
-  λ f k. below-is (count s k) (v k) (w .word k) (w .exist k) .1 (f k),
-  λ e k. below-is (count s k) (v k) (w .word k) (w .exist k) .0 (e k),
+  λ f k. full-is (count s k) (v k) (w .exist k) .1 (f k),
+  λ e k. full-is (count s k) (v k) (w .exist k) .0 (e k),
 )
 
 -- and such masks are a view
