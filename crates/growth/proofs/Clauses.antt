@@ -10,7 +10,7 @@ use Rattle.search.specs.Search.{any}
 use Rattle.search.proofs.Tests.{and-is, not-is, eq-is, stable}
 use Rattle.search.proofs.Search.{any-is}
 use Rattle.sets.specs.Set.{has, below}
-use Rattle.sets.proofs.Algebra.{below-is}
+use Rattle.sets.proofs.Algebra.{full-is}
 use Rattle.relations.specs.Relation.{Plus}
 use Rattle.dependencies.specs.History.{SO, write-read, PrefixStep, SnapshotStep, Holds, Closed, MonotonicWrites, WriteFollowsReads, UpdateAtomic, ConsistentPrefix, SnapshotIsolation, Serialisable}
 use Rattle.store.specs.Store.{Key, CommitNumber, View, Store, count, version, nextNumber, Commit}
@@ -98,8 +98,8 @@ module _ (s : Store) (u : View) (v : IsView s u) where
   -- the same by masks
   pub update-atomic-masks : (c : Commit) → UpdateAtomic (history s) (held u) (λ k. T (writes c k)) ↔ ((k : Key) → T (writes c k) → u k ≡ below (count s k))
   update-atomic-masks c = (
-    λ f k x. below-is (count s k) (u k) .1 (λ i. (v .exist k i, λ l. f (version s k i .writer) k i x (l, refl))),
-    λ f a k i x w. below-is (count s k) (u k) .0 (f k x) i .1 (w .0),
+    λ f k x. full-is (count s k) (u k) (v .exist k) .1 (λ i l. f (version s k i .writer) k i x (l, refl)),
+    λ f a k i x w. full-is (count s k) (u k) (v .exist k) .0 (f k x) i (w .0),
   )
 
   -- clause 8: all writers; that is, the view is full

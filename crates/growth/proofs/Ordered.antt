@@ -157,3 +157,8 @@ unfolding final step
 ordered-run h done o = o
 ordered-run h (shifts f l r) o = ordered-run (sound-shifts h l) r o
 ordered-run h (commits f l r) o = ordered-run (sound-commits h f l) r (ordered-commit _ _ _ (legal-made h f l) o)
+
+-- from the opening on
+pub ordered-final : (keys : ℕ) {es : List Event} → LegalRun (opening keys) es → Ordered (final (opening keys) es .store)
+unfolding opening
+ordered-final keys r = ordered-run (sound-opening keys) r (ordered-opening keys)

@@ -158,9 +158,9 @@ module _ (s : Store) (u : View) (c : Commit) (m : Made s u c) where
   -- ---- any steps that grow so: those that end at the new commit, and those that end elsewhere
 
   module _ (S S′ D : ℕ → ℕ → Type 0) (Into Through : ℕ → Type 0) (below : Below (nextNumber s) S)
-      (after : (a b : CommitNumber) → S′ a b ↔ (S a b ⊎ NewStep s u c D Into Through a b)) where
+      (grows : (a b : CommitNumber) → S′ a b ↔ (S a b ⊎ NewStep s u c D Into Through a b)) where
     pub step-to-new : (a : CommitNumber) → S′ a (nextNumber s) ↔ (Into a ⊎ Brought s c D a)
-    step-to-new a = (λ x. out (after a (nextNumber s) .0 x), λ x. after a (nextNumber s) .1 (inr (inl (refl, x))))
+    step-to-new a = (λ x. out (grows a (nextNumber s) .0 x), λ x. grows a (nextNumber s) .1 (inr (inl (refl, x))))
       where
         out : S a (nextNumber s) ⊎ NewStep s u c D Into Through a (nextNumber s) → Into a ⊎ Brought s c D a
         out (inl x) = let l : (nextNumber s) < nextNumber s = below a (nextNumber s) x in absurd (omega arith)
@@ -168,7 +168,7 @@ module _ (s : Store) (u : View) (c : Commit) (m : Made s u c) where
         out (inr (inr (x, _))) = absurd (stored-not-new s u c m (to-later-stored s u c x) refl)
 
     pub step-to-old : (a b : CommitNumber) → b ≢ nextNumber s → S′ a b ↔ (S a b ⊎ (ToLater s u c b × Through a))
-    step-to-old a b n = (λ x. out (after a b .0 x), λ x. after a b .1 (back x))
+    step-to-old a b n = (λ x. out (grows a b .0 x), λ x. grows a b .1 (back x))
       where
         out : S a b ⊎ NewStep s u c D Into Through a b → S a b ⊎ (ToLater s u c b × Through a)
         out (inl x) = inl x

@@ -9,7 +9,7 @@ use lib.Dec.{T}
 use Rattle.search.proofs.Tests.{T?}
 use Rattle.sets.specs.Set.{has, below}
 use Rattle.sets.proofs.Laws.{has-none, has-below, below-has}
-use Rattle.sets.proofs.Algebra.{below-is}
+use Rattle.sets.proofs.Algebra.{full-is}
 use Rattle.dependencies.specs.History.{Holds}
 use Rattle.store.specs.Store.{Key, VersionNumber, CommitNumber, View, Store, count, version, nextNumber, Commit}
 use Rattle.store.specs.Update.{writes, update}
@@ -59,8 +59,8 @@ opening-not-lacking s h o v w ((k, (i, x)), n) = let l = h .only-keys k i (x .0)
 -- the masks of a full view
 pub full-mask : (s : Store) (v : View) → IsView s v → Full s v ↔ ((k : Key) → v k ≡ below (count s k))
 full-mask s v w = (
-  λ f k. below-is (count s k) (v k) .1 (λ i. (w .exist k i, f k i)),
-  λ e k i. below-is (count s k) (v k) .0 (e k) i .1,
+  λ f k. full-is (count s k) (v k) (w .exist k) .1 (f k),
+  λ e k. full-is (count s k) (v k) (w .exist k) .0 (e k),
 )
 
 -- and such masks are a view
@@ -115,11 +115,11 @@ whole-gains s h o v v′ w grows = (λ f t k l (i, x, n, y) (j, z). (j, f t k i 
 
 -- ---- after a commit
 
--- a view that was full after commit t
+-- the view holds the writers up to commit t and no others
 abbrev pub HoldsUpTo : Store → View → CommitNumber → Type 0
 HoldsUpTo s v t = (a : CommitNumber) → Holds (history s) (held v) a ↔ (Writer (history s) a × (a ≤ t))
 
--- is so for a full view and the last commit
+-- a full view does so with the last commit
 pub full-holds-up-to : (s : Store) → SoundStore s → (v : View) → Full s v → HoldsUpTo s v (s .commits)
 full-holds-up-to s h v f a = (
   λ x. let w = full-holds s v f a .0 x in let l : a < nextNumber s = h .writers a (w .0) (w .1 .0) (w .1 .1) in (w, omega arith),
@@ -139,7 +139,7 @@ module _ (s : Store) (u : View) (c : Commit) (m : Made s u c) (v : View) (w : Is
       out k i h (inl x) = (k, i, h, x)
       out k i h (inr (_, _, e)) = let l : i < count s k = w .exist k i h in absurd (omega arith)
 
-  -- so a view that was full after an earlier commit remains that
+  -- so what was full after an earlier commit holds the writers up to that commit
   pub holds-up-to-kept : (t : CommitNumber) → t < nextNumber s → HoldsUpTo s v t → HoldsUpTo (update s u c) v t
   holds-up-to-kept t l is a = (
     λ x. let y = is a .0 (holds-kept a .0 x) in (writer-after s u c m a .1 (inl (y .0)), y .1),

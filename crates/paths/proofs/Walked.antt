@@ -2,7 +2,7 @@
 -- everything that leads to a member. `done` are the numbers whose row was taken, `left` those whose row is still to be taken. Assumes nothing.
 use Prim.Native.Nat.{ℕ, _^_, _<_}
 use mathlib.Core.Path.{_≡_, refl, sym, subst}
-use mathlib.Core.Logic.{_⊎_, inl, inr, _↔_}
+use mathlib.Core.Logic.{_⊎_, inl, inr}
 use native.Mathlib.Omega.{arith}
 use lib.Dec.{T}
 use Rattle.search.proofs.Tests.{same, T?}

@@ -1,9 +1,9 @@
 -- `paths::leading` meets its contract. The loop's invariant: the walk so far, of each store that the array keeps, and that no number is both taken
 -- and to be taken. The measure: the numbers taken, as a word, make a larger number at each turn. Assumes nothing.
-use borrow.Author.Needs.{needs}
 use Prim.Native.Nat.{ℕ, _-_, _^_, _<_}
 use native.Mathlib.Omega.{arith}
 use lib.Dec.{T}
+use borrow.Author.Needs.{needs}
 use Rattle.sets.specs.Set.{has}
 use Rattle.sets.proofs.Laws.{has-none}
 use Rattle.store.specs.Store.{Store}

@@ -1,0 +1,1 @@
+// The run of a trace, record by record, from the opening arrays. See specs/.
