@@ -1,8 +1,8 @@
 -- The sets of commits that the clauses want, from the arrays. Assumes nothing.
 use Prim.Native.Nat.{ℕ, _+_, _*_, _^_, _<_}
-use mathlib.Core.Path.{_≡_, refl, subst}
+use mathlib.Core.Path.{_≡_, subst}
 use mathlib.Core.Bool.{Bool, true, false}
-use mathlib.Core.Logic.{_⊎_, inl, inr, _↔_}
+use mathlib.Core.Logic.{_↔_}
 use mathlib.Core.List.{List}
 use lib.Dec.{T}
 use lib.ListN.{getD}
@@ -11,7 +11,7 @@ use Rattle.search.proofs.Tests.{same}
 use Rattle.sets.specs.Set.{Set, has, without}
 use Rattle.sets.proofs.Laws.{has-none, has-lt}
 use Rattle.relations.specs.Relation.{Plus}
-use Rattle.dependencies.specs.History.{SO, WR, Holds}
+use Rattle.dependencies.specs.History.{SO, Holds}
 use Rattle.store.specs.Store.{Key, CommitNumber, View, Store, Commit}
 use Rattle.store.specs.Update.{writes}
 use Rattle.store.proofs.Sound.{SoundStore}
@@ -21,7 +21,7 @@ use Rattle.growth.proofs.Links.{FromWrite}
 use Rattle.growth.proofs.Sessions.{ReadUpTo}
 use Rattle.growth.proofs.Views.{Lacking}
 use Rattle.growth.proofs.Clauses.{LeadsToHeld}
-use Rattle.state.specs.Places.{numbers, beforePlace, readPlace}
+use Rattle.state.specs.Places.{numbers}
 use Rattle.state.specs.Keeps.{IsSet, KeepsKeys, KeepsCommits, KeepsOperations, Step}
 use Rattle.state.proofs.Sets.{isSet-as, isSet-without}
 use Rattle.paths.specs.Path.{LeadsInto}
@@ -61,15 +61,7 @@ module _ (s : Store) (u : View) (seen : Set) (h : IsSet seen (Holds (history s) 
   before-is commits r l kept = rows-are (SO (history s)) commits 64 r l (kept .before)
 
   pub read-is : (commits : List ℕ) (r : ℕ) → seen < 2 ^ 64 → KeepsCommits s commits → IsSet r (InRows commits 128 seen) → IsSet r (LeadsToHeld s u (ReadUpTo (history s)))
-  read-is commits r l kept = rows-are (ReadUpTo (history s)) commits 128 r l (λ t m. isSet-as (getD commits (readPlace t) 0) (λ a. (out a t, back a t)) (kept .read t m))
-    where
-      out : (a t : CommitNumber) → WR (history s) a t ⊎ ((b : ℕ) × SO (history s) b t × WR (history s) a b) → ReadUpTo (history s) a t
-      out a t (inl x) = (t, inl refl, x)
-      out a t (inr (b, o, x)) = (b, inr o, x)
-
-      back : (a t : CommitNumber) → ReadUpTo (history s) a t → WR (history s) a t ⊎ ((b : ℕ) × SO (history s) b t × WR (history s) a b)
-      back a t (b, inl e, x) = inl (subst (WR (history s) a) e x)
-      back a t (b, inr o, x) = inr (b, o, x)
+  read-is commits r l kept = rows-are (ReadUpTo (history s)) commits 128 r l (kept .read)
 
   -- the writers of the keys written
   pub written-is : (c : Commit) (keys : List ℕ) (ranks : Set) (values : List ℕ) (n r : ℕ) → s .keys ≡ n → SoundStore s → KeepsKeys s keys → KeepsOperations c ranks values
