@@ -1,36 +1,27 @@
 -- Codes 10 and 14 key by key: what the masks say of a key, and the least key. Assumes nothing.
-use Prim.Native.Nat.{ℕ, _^_, _≤_, _<_}
-use mathlib.Core.Path.{_≡_, sym, ap, _∙_, subst}
-use mathlib.Core.Bool.{Bool, true, false, true≢false, not, _&&_}
+use Prim.Native.Nat.{ℕ, _+_, _*_, _^_, _≤_, _<_}
+use mathlib.Core.Path.{_≡_, refl, sym, ap, _∙_}
+use mathlib.Core.Bool.{Bool, true, false, not, _&&_, _||_}
 use mathlib.Core.Logic.{_⊎_, _↔_, _≢_, inl, inr}
 use mathlib.Core.Option.{Option, some, none}
 use native.Mathlib.Omega.{arith}
 use native.Mathlib.Decide.{ℕ-discrete, decLe}
-use lib.Dec.{T, leb, T-not, not-T}
+use mathlib.Core.List.{List}
+use lib.Dec.{T, eqb, leb, T-not, not-T}
+use borrow.Author.Tests.{eq-eqb, ne-eqb}
+use Rattle.search.specs.Choose.{isSome}
 use Rattle.search.specs.Search.{any, least}
-use Rattle.search.proofs.Tests.{T-true, true-T, same, and-is, le-is, or-left, or-right, or-cases}
+use Rattle.search.proofs.Tests.{same, and-is, le-is, or-left, or-right, or-cases}
 use Rattle.search.proofs.Search.{any-is, least-none, least-found}
 use Rattle.sets.specs.Set.{has, below, lowest, without, width}
 use Rattle.sets.proofs.Laws.{has-lt, has-below, below-has, has-lowest}
 use Rattle.sets.proofs.Algebra.{without-is, subset-is, without-word}
-use Rattle.store.specs.Store.{Key, View, Store, count}
-use Rattle.store.specs.Refusal.{badMaskAt, badMask}
-
--- ---- tests of the code
-
--- `if !f(..)`, where f answers b
-pub not-taken : {r b : Bool} → not r ≡ true → r ≡ b → ¬ T b
-not-taken {r} e q t = true≢false (sym e ∙ ap not (q ∙ T-true _ t))
-
-pub not-left : {r b : Bool} → not r ≡ false → r ≡ b → T b
-not-left {r} e q = go r e q
-  where
-    go : (r : Bool) {b : Bool} → not r ≡ false → r ≡ b → T b
-    go true e q = true-T _ (sym q)
-    go false e q = absurd (true≢false e)
-
-has-as : {a b : ℕ} (i : ℕ) → a ≡ b → T (has a i) → T (has b i)
-has-as i e t = subst (λ (m : ℕ). T (has m i)) e t
+use Rattle.store.specs.Store.{Key, View, Store, count, Commit}
+use Rattle.store.specs.Update.{reads, writes}
+use Rattle.store.specs.Refusal.{badMaskAt, badMask, strayAt, stray}
+use Rattle.state.specs.Keeps.{KeepsOperations}
+use Rattle.views.specs.Strays.{strays}
+use Rattle.views.proofs.Tests.{taken, left, has-as, isSome-when}
 
 -- ---- the least key
 
@@ -85,3 +76,55 @@ module _ (s : Store) (u : View) (n : ℕ) (e : s .keys ≡ n) where
   pub bad-nowhere : ((l : Key) → l < n → ¬ T (badMaskAt s u l)) → none ≡ badMask s u
   unfolding badMask
   bad-nowhere = least-nowhere n (s .keys) (badMaskAt s u) e
+
+-- ---- code 14
+
+module _ (mask view ranks k : ℕ) where
+  -- the test in the code's order
+  pub strays-same : mask ≡ view → false ≡ strays mask view ranks k
+  unfolding strays
+  strays-same e = go (has ranks (2 * k) || has ranks (2 * k + 1)) (eq-eqb mask view e)
+    where
+      go : (a : Bool) {b : Bool} → b ≡ true → false ≡ (not a && not b)
+      go true e = refl
+      go false e = rw e
+
+  pub strays-read : {r : Bool} → r ≡ true → r ≡ has ranks (2 * k) → false ≡ strays mask view ranks k
+  unfolding strays
+  strays-read t q = rw (← q, t)
+
+  pub strays-unread : {r w : Bool} → mask ≢ view → r ≡ false → r ≡ has ranks (2 * k) → w ≡ has ranks (2 * k + 1) → not w ≡ strays mask view ranks k
+  unfolding strays
+  strays-unread {w = w} n t q p = rw (← q, t, ← p, ne-eqb mask view n) (go w)
+    where
+      go : (b : Bool) → not b ≡ (not b && true)
+      go true = refl
+      go false = refl
+
+module _ (c : Commit) (ranks : ℕ) (values : List ℕ) (h : KeepsOperations c ranks values) (k : Key) where
+  -- the ranks say which keys have an operation
+  pub reads-is : reads c k ≡ has ranks (2 * k)
+  reads-is = ap isSome (h .reads k) ∙ isSome-when _ _
+
+  pub writes-is : writes c k ≡ has ranks (2 * k + 1)
+  writes-is = ap isSome (h .writes k) ∙ isSome-when _ _
+
+  module _ (old : View) {mask view : ℕ} (e : mask ≡ c .viewAfter k) (f : view ≡ old k) where
+    stray-is : strayAt old c k ≡ strays mask view ranks k
+    unfolding strays
+    stray-is = rw (reads-is, writes-is, ← e, ← f)
+
+    pub stray-yes : {r : Bool} → r ≡ true → r ≡ strays mask view ranks k → T (strayAt old c k)
+    stray-yes t q = taken t (q ∙ sym stray-is)
+
+    pub stray-no : {r : Bool} → r ≡ false → r ≡ strays mask view ranks k → ¬ T (strayAt old c k)
+    stray-no t q = left t (q ∙ sym stray-is)
+
+module _ (s : Store) (old : View) (c : Commit) (n : ℕ) (e : s .keys ≡ n) where
+  pub stray-at : (k : Key) → k < n → T (strayAt old c k) → ((l : Key) → l < k → ¬ T (strayAt old c l)) → some k ≡ stray s old c
+  unfolding stray
+  stray-at = least-at n (s .keys) (strayAt old c) e
+
+  pub stray-nowhere : ((l : Key) → l < n → ¬ T (strayAt old c l)) → none ≡ stray s old c
+  unfolding stray
+  stray-nowhere = least-nowhere n (s .keys) (strayAt old c) e

@@ -1,1 +1,4 @@
+pub mod Tests
 pub mod Codes
+pub mod Missing
+pub mod Rows

@@ -7,7 +7,8 @@ use borrow.Author.Count.{below-more}
 use Rattle.store.specs.Store.{View, Store}
 use Rattle.store.specs.Refusal.{badMaskAt}
 use Rattle.state.specs.Keeps.{KeepsKeys, KeepsMasks}
-use Rattle.views.proofs.Codes.{not-taken, not-left, lacks-first, holds-other, good-mask, bad-at, bad-nowhere}
+use Rattle.views.proofs.Tests.{not-taken, not-left}
+use Rattle.views.proofs.Codes.{lacks-first, holds-other, good-mask, bad-at, bad-nowhere}
 use Rattle.views.proofs.masks.bad_mask.Statement.{statement}
 use Rattle.views.proofs.masks.bad_mask.Tie as tie
 use Rattle.views.proofs.masks.bad_mask.Reads as reads
