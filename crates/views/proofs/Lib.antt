@@ -1,4 +1,5 @@
 pub mod Tests
 pub mod Codes
-pub mod Missing
+pub mod Looking
+pub mod Words
 pub mod Rows

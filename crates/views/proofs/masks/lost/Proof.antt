@@ -1,4 +1,4 @@
-use Rattle.views.proofs.Missing.{lost-wanted}
+use Rattle.views.proofs.Looking.{lost-wanted}
 use borrow.Author.Needs.{needs}
 use Prim.Native.Nat.{ℕ, _+_, _-_, _≤_, _<_}
 use mathlib.Core.Path.{_≡_, refl, sym, ap, _∙_}
@@ -12,7 +12,7 @@ use Rattle.store.proofs.Sound.{IsView}
 use Rattle.store.proofs.Missing.{MetAt}
 use Rattle.state.specs.Keeps.{KeepsMasks}
 use Rattle.views.specs.Rows.{RowAt}
-use Rattle.views.proofs.Missing.{looking-lost, looking-done, looking-found, missing-nowhere}
+use Rattle.views.proofs.Looking.{looking-lost, looking-done, looking-found, missing-nowhere}
 use Rattle.views.proofs.masks.lost.Statement.{statement}
 use Rattle.views.proofs.masks.lost.Tie as tie
 use Rattle.views.proofs.masks.lost.Reads as reads
@@ -65,7 +65,7 @@ returns c = λ s old u e v ro km.
     let k = c .before .before .before .before .before .before .loop .k in
     let word = c .before .before .before .before .before .before .before .shared-slice-known2 .given _ .fits in
     looking-found s (allOf old) u k (looking-lost s u k old v word (ro _ (omega arith)) (km .masks _ (omega arith)) (c .before .before .without .ensures)) (c .before .if1 .taken) (c .lowest .ensures .0)
-    (lost-wanted s u k old _ word (ro _ (omega arith)) (c .before .before .without .ensures) (c .before .if1 .taken) (c .lowest .ensures .0)) (omega arith) (c .before .before .before .before .before .before .loop .inv .1 s old u e v ro km)
+    (λ b. lost-wanted s u k old _ word (ro _ (omega arith)) (c .before .before .without .ensures) (c .before .if1 .taken) (c .lowest .ensures .0)) (omega arith) (c .before .before .before .before .before .before .loop .inv .1 s old u e v ro km)
 
 -- src/masks.rt:48:13
 add-k : tie.Need-add-k Inv-loop μ-loop

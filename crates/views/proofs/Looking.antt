@@ -47,19 +47,19 @@ module _ (s : Store) (want : Rule) (u : View) (k : Key) where
       lowest-in = rw low (has-lowest left some-left (h .word))
 
       -- the lowest is not wanted
-      pub looking-on : ¬ T (want k v) → {rest : ℕ} → rest ≡ without left (single (lowest left)) → Looking s want u k rest
+      pub looking-on : (v < count s k → ¬ T (want k v)) → {rest : ℕ} → rest ≡ without left (single (lowest left)) → Looking s want u k rest
       looking-on n {rest} e = record {
         word = rw e (without-word left (single (lowest left)) (h .word));
         within = λ i t. h .within i (without-is left (single (lowest left)) i .0 (has-as i e t) .0);
         waits = λ i l t m. has-as i (sym e) (without-is left (single (lowest left)) i .1
-          (h .waits i l t m, λ x. n (subst (λ (j : ℕ). T (want k j)) (single-only (lowest left) i x ∙ sym low) t)))
+          (h .waits i l t m, λ x. n (h .within v lowest-in .0) (subst (λ (j : ℕ). T (want k j)) (single-only (lowest left) i x ∙ sym low) t)))
       }
 
       -- it is wanted: the first
-      pub looking-found : T (want k v) → k < s .keys → ((l : ℕ) → l < k → MetAt s want u l) → some (record { key = k; version = v }) ≡ missing s want u
+      pub looking-found : (v < count s k → T (want k v)) → k < s .keys → ((l : ℕ) → l < k → MetAt s want u l) → some (record { key = k; version = v }) ≡ missing s want u
       looking-found t l before =
           let w = h .within v lowest-in in
-          sym (missing-found s want u k v l (w .0) t (w .1) before (λ j m y. stable (has (u k) j) (λ n. earlier j m (h .waits j (omega (arith, w .0)) y n))))
+          sym (missing-found s want u k v l (w .0) (t (w .0)) (w .1) before (λ j m y. stable (has (u k) j) (λ n. earlier j m (h .waits j (omega (arith, w .0)) y n))))
         where
           earlier : (j : ℕ) → j < v → T (has left j) → ⊥
           earlier j m x = let g : lowest left ≤ j = lowest-least left some-left (h .word) j x in omega arith
