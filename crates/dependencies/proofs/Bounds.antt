@@ -23,7 +23,7 @@ module _ (n : ℕ) (H : History) (below : StoredBelow n H) where
   pub RW-below : Below n (RW H)
   RW-below a b (read-write r w l n) = below b (as-writer w)
 
-  plain-below : Below n (PlainLink H)
+  pub plain-below : Below n (PlainLink H)
   plain-below a b (by-SO s) = SO-below a b s
   plain-below a b (by-WR s) = WR-below a b s
   plain-below a b (by-WW s) = WW-below a b s

@@ -47,7 +47,7 @@ module _ (H : History) where
       out (followed (by-WR s) r) = inr (inl (followed s r))
       out (followed (by-WW s) r) = inr (inr (followed s r))
 
-  snapshot-prefix : Contains (SnapshotStep H) (PrefixStep H)
+  pub snapshot-prefix : Contains (SnapshotStep H) (PrefixStep H)
   snapshot-prefix a b (inl s) = snapshotStep-is a b .0 (inl s)
   snapshot-prefix a b (inr (inl s)) = snapshotStep-is a b .0 (inr (inl s))
   snapshot-prefix a b (inr (inr s)) = snapshotStep-is a b .0 (inr (inr (alone s)))

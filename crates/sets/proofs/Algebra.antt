@@ -114,3 +114,7 @@ insert-word t m l h = or-lt 64 m (single t) h (single-word t l)
 pub without-word : (a b : ℕ) → a < 2 ^ 64 → without a b < 2 ^ 64
 unfolding without
 without-word a b l = xor-lt 64 a (bitAnd a b) l (omega (arith, and-le-l a b))
+
+-- a set of numbers below n is all of them exactly where it holds each
+pub full-is : (n m : ℕ) → ((i : ℕ) → T (has m i) → i < n) → (m ≡ below n) ↔ ((i : ℕ) → i < n → T (has m i))
+full-is n m h = (λ e i l. below-is n m .0 e i .1 l, λ f. below-is n m .1 (λ i. (h i, f i)))

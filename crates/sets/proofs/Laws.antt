@@ -5,7 +5,7 @@ use Prim.Native.Nat.{ℕ, zero, suc, _+_, _-_, _*_, _/_, _%_, _^_, _≤_, _<_, m
 use native.Mathlib.Nat.{div-eq-of-lt, div-self, mul-div-cancel, div-eq-of-lt-le, pow-suc}
 use native.Mathlib.Numerals.{add-one}
 use native.Mathlib.Omega.{arith}
-use native.Mathlib.Decide.{decLt, decLe}
+use native.Mathlib.Decide.{ℕ-discrete, decLt, decLe}
 use lib.Dec.{T, eqb, eqb→eq}
 use lib.Bits.{and-mask}
 use lib.Pow.{mod-pow-add, pow-pos, pow-lt, pow-add, pow-mono, ones-split, ones-lt, high}
@@ -73,6 +73,10 @@ insert-has t m i h = go (digit m i) refl
 pub has-insert : (t m i : ℕ) → T (has m i) → T (has (insert t m) i)
 has-insert t m i h = eq-test _ 1 (digit-or m (2 ^ t) i ∙ (let e : digit m i ≡ 1 = eqb→eq _ 1 h in omega (arith, digit-small (2 ^ t) i)))
 
+-- the number itself is in it then
+pub insert-self : (t m : ℕ) → T (has (insert t m) t)
+insert-self t m = eq-test _ 1 (digit-or m (2 ^ t) t ∙ (let e : digit (2 ^ t) t ≡ 1 = eqb→eq _ 1 (single-has t) in omega (arith, digit-small m t)))
+
 -- ---- all numbers below n
 
 pub has-below : (n i : ℕ) → i < n → T (has (below n) i)
@@ -117,6 +121,10 @@ module _ (m : ℕ) (p : 0 < m) (l : m < 2 ^ 64) where
       let e : 2 ^ suc (top .0) ≡ 2 ^ (top .0) * 2 = pow-suc 2 (top .0) in
       let q : m / 2 ^ (top .0) ≡ 1 = div-eq-of-lt-le (2 ^ (top .0)) (omega (arith, top .2)) (omega arith) in
       rw highest-top (eq-test (digit m (top .0)) 1 (omega arith))
+
+  -- and so large only
+  highest-large : m < 2 ^ suc (highest m)
+  highest-large = rw highest-top (top .3)
 
   pub highest-most : (j : ℕ) → T (has m j) → j ≤ highest m
   highest-most j h = go (decLe j (highest m))

@@ -21,6 +21,7 @@ use Rattle.store.proofs.Updated.{Wrote}
 use Rattle.store.proofs.Sound.{opening-first, sound-opening}
 use Rattle.store.proofs.Links.{history, held}
 use Rattle.store.proofs.Opening.{opening-history}
+use Rattle.growth.proofs.Sessions.{ReadUpTo}
 use Rattle.state.specs.Places.{perKey, numbers, headPlace, readersPlace, viewPlace, linkPlace, leadPlace}
 use Rattle.state.specs.Keeps.{IsSet, KeepsVersions, KeepsKeys, KeepsViews, KeepsSessions, KeepsCommits, KeepsLinks, Keeps, WroteKey, CommitOf, FirstLink, Step}
 
@@ -123,9 +124,8 @@ module _ (keys : ℕ) where
     read = λ t b. nothing-in _ (zeros (3 * numbers) (2 * numbers + t)) (λ w x. no-read w t x)
   }
     where
-      no-read : (w t : ℕ) → D.WR (history s) w t ⊎ ((a : ℕ) × D.SO (history s) a t × D.WR (history s) w a) → ⊥
-      no-read w t (inl x) = no-link (by-WR x)
-      no-read w t (inr (a, x, y)) = no-link (by-SO x)
+      no-read : (w t : ℕ) → ReadUpTo (history s) w t → ⊥
+      no-read w t (r, _, x) = no-link (by-WR x)
 
   no-first : (kind a b : ℕ) → ¬ FirstLink kind s a b
   no-first zero a b (inl x) = no-link (by-SO x)

@@ -16,6 +16,7 @@ use Rattle.store.specs.Store.{Key, CommitNumber, Client, SessionNumber, View, S
 use Rattle.store.specs.Update.{valueOf}
 use Rattle.store.proofs.Updated.{Wrote, Read}
 use Rattle.store.proofs.Links.{history, held}
+use Rattle.growth.proofs.Sessions.{ReadUpTo}
 use Rattle.state.specs.Places.{perKey, numbers, headPlace, readersPlace, fullPlace, writersPlace, viewPlace, commitsPlace, drawnPlace, barPlace, logPlace, beforePlace, readPlace, linkPlace, leadPlace, packed}
 
 -- a word is the set of the numbers with P
@@ -73,8 +74,7 @@ pub record KeepsCommits (s : Store) (commits : List ℕ) : Type 0 where
   pub log : (t : CommitNumber) → 0 < t → t ≤ s .commits → getD commits (logPlace t) 0 ≡ packed (s .clientOf t) (s .sessionOf t)
   pub before : (t : CommitNumber) → t < numbers → IsSet (getD commits (beforePlace t) 0) (λ a. D.SO (history s) a t)
   -- the writers of what the commit read, or a commit before it in SO read
-  pub read : (t : CommitNumber) → t < numbers
-      → IsSet (getD commits (readPlace t) 0) (λ w. D.WR (history s) w t ⊎ ((a : ℕ) × D.SO (history s) a t × D.WR (history s) w a))
+  pub read : (t : CommitNumber) → t < numbers → IsSet (getD commits (readPlace t) 0) (λ w. ReadUpTo (history s) w t)
 
 -- ---- links, for clauses 6 and 7
 

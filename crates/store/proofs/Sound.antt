@@ -105,12 +105,17 @@ opening-beyond k keys l = go (ltb k keys) refl
     go true e = let h : k < keys = ltb→lt k keys (subst T (sym e) tt) in absurd (omega arith)
     go false e = refl
 
+-- nobody has read a version yet
+pub opening-unread : (keys t k i : ℕ) → ¬ Read (openingStore keys) t k i
+unfolding openingStore
+opening-unread keys t k i r = has-none t (subst (λ (v : Version). T (has (v .readers) t)) (opening-first (ltb k keys) i (r .0) .1) (r .1))
+
 pub sound-opening : (keys : ℕ) → Sound (opening keys)
 unfolding opening openingStore
 sound-opening keys = record {
   store = record {
     writers = λ t k i w. let e : 0 ≡ t = ap (λ (v : Version). v .writer) (sym (opening-first (ltb k keys) i (w .0) .1)) ∙ w .1 in omega arith;
-    readers = λ t k i r. absurd (has-none t (subst (λ (v : Version). T (has (v .readers) t)) (opening-first (ltb k keys) i (r .0) .1) (r .1)));
+    readers = λ t k i r. absurd (opening-unread keys t k i r);
     some-version = λ k l. opening-some (ltb k keys) (lt→ltb k keys l);
     few = λ k. opening-count (ltb k keys);
     only-keys = λ k i l. ltb→lt k keys (opening-first (ltb k keys) i l .0)

@@ -1,7 +1,7 @@
 -- What a commit changes in the versions of one key, and in the tables. Callers reach `update` through these laws. Assumes nothing.
 use mathlib.Core.Path.{_≡_, refl, sym, ap, _∙_, subst}
 use mathlib.Core.Bool.{Bool, true, false, _&&_, _||_, not}
-use mathlib.Core.Logic.{_⊎_, inl, inr, _≢_}
+use mathlib.Core.Logic.{_⊎_, inl, inr, _↔_, _≢_}
 use mathlib.Core.Option.{Option, some, none}
 use mathlib.Core.List.{List, [], _∷_, _++_}
 use Prim.Native.Nat.{ℕ, zero, suc, _+_, _≤_, _<_}
@@ -14,7 +14,7 @@ use Rattle.search.specs.Choose.{isSome}
 use Rattle.search.proofs.Choose.{choose-same, choose-other}
 use Rattle.search.proofs.Tests.{T?, or-left, or-right, isSome-some, isSome-none, not-is, some-of}
 use Rattle.sets.specs.Set.{has, insert, highest}
-use Rattle.sets.proofs.Laws.{insert-has, has-insert, has-none}
+use Rattle.sets.proofs.Laws.{insert-has, has-insert, insert-self, has-none}
 use Rattle.store.specs.Store.{Key, VersionNumber, CommitNumber, Value, Version, openingVersion, View, Store, Configuration, count, version, nextNumber, read, write, Operation, Commit}
 use Rattle.store.specs.Update.{valueOf, reads, writes, touches, newest, readBy, noteRead, append, atNumber, update}
 
@@ -45,6 +45,34 @@ note-at (some x) p t vs i h = go (ℕ-discrete i p)
     go (yes e) = inr (tt, e, rw (e, getD-set-same vs p _ openingVersion (subst (λ (x : ℕ). x < length vs) e h)))
     go (no n) = inl (getD-set-other vs p i _ openingVersion n)
 
+-- the writers stay, and so do the readers
+note-writer : (o : Option Value) (p t : ℕ) (vs : List Version) (i : ℕ) → i < length vs
+    → getD (noteRead o p t vs) i openingVersion .writer ≡ getD vs i openingVersion .writer
+note-writer o p t vs i h = go (note-at o p t vs i h)
+  where
+    go : (getD (noteRead o p t vs) i openingVersion ≡ getD vs i openingVersion)
+        ⊎ (T (isSome o) × (i ≡ p) × (getD (noteRead o p t vs) i openingVersion ≡ readBy t (getD vs i openingVersion)))
+        → getD (noteRead o p t vs) i openingVersion .writer ≡ getD vs i openingVersion .writer
+    go (inl e) = ap (λ (v : Version). v .writer) e
+    go (inr (_, _, e)) = ap (λ (v : Version). v .writer) e
+
+note-reader : (o : Option Value) (p t : ℕ) (vs : List Version) (i : ℕ) → i < length vs → (b : CommitNumber)
+    → T (has (getD vs i openingVersion .readers) b) → T (has (getD (noteRead o p t vs) i openingVersion .readers) b)
+note-reader o p t vs i h b r = go (note-at o p t vs i h)
+  where
+    go : (getD (noteRead o p t vs) i openingVersion ≡ getD vs i openingVersion)
+        ⊎ (T (isSome o) × (i ≡ p) × (getD (noteRead o p t vs) i openingVersion ≡ readBy t (getD vs i openingVersion)))
+        → T (has (getD (noteRead o p t vs) i openingVersion .readers) b)
+    go (inl e) = subst (λ (v : Version). T (has (v .readers) b)) (sym e) r
+    go (inr (_, _, e)) = subst (λ (v : Version). T (has (v .readers) b)) (sym e) (has-insert t (getD vs i openingVersion .readers) b r)
+
+-- and the reader is among those of the version that it read
+note-new : (o : Option Value) (p t : ℕ) (vs : List Version) → p < length vs → T (isSome o) → T (has (getD (noteRead o p t vs) p openingVersion .readers) t)
+unfolding noteRead isSome
+note-new none p t vs h r = absurd r
+note-new (some x) p t vs h r =
+    subst (λ (v : Version). T (has (v .readers) t)) (sym (getD-set-same vs p _ openingVersion h)) (insert-self t (getD vs p openingVersion .readers))
+
 -- ---- a version appended
 
 pub append-length : (o : Option Value) (t : ℕ) (vs : List Version)
@@ -74,6 +102,23 @@ pub append-old : (o : Option Value) (t : ℕ) (vs : List Version) (i : ℕ) → 
 unfolding append
 append-old none t vs i h = refl
 append-old (some x) t vs i h = List·getD-append vs _ openingVersion i h
+
+-- where something is written the list is longer by one, and its last version is by this commit
+append-longer : (o : Option Value) (t : ℕ) (vs : List Version) → T (isSome o) → length (append o t vs) ≡ suc (length vs)
+unfolding append isSome
+append-longer none t vs h = absurd h
+append-longer (some x) t vs h = simp length-append (omega arith)
+
+append-last : (o : Option Value) (t : ℕ) (vs : List Version) → T (isSome o) → getD (append o t vs) (length vs) openingVersion .writer ≡ t
+unfolding append isSome
+append-last none t vs h = absurd h
+append-last (some x) t vs h = ap (λ (v : Version). v .writer) (getD-append-seam vs (record { value = x; writer = t; readers = 0 }) [] openingVersion)
+
+-- where nothing is, the list stays
+append-none : (o : Option Value) (t : ℕ) (vs : List Version) → ¬ T (isSome o) → append o t vs ≡ vs
+unfolding append isSome
+append-none none t vs h = refl
+append-none (some x) t vs h = absurd (h tt)
 
 -- ---- the whole commit
 
@@ -141,3 +186,66 @@ module _ (s : Store) (u : View) (c : Commit) where
       go (some x) w n m = absurd (n tt)
       go none (some y) n m = absurd (m tt)
       go none none n m = refl
+
+  -- ---- and back: what the laws above allow is so
+
+  noted-length : (k : Key) → length (noted k) ≡ count s k
+  noted-length k = note-length (valueOf read (c .operations) k) (newest u k) (nextNumber s) (s .versions k)
+
+  -- the count of a key rises by one where the commit writes it
+  pub count-written : (k : Key) → T (writes c k) → count (update s u c) k ≡ suc (count s k)
+  unfolding update
+  count-written k w = append-longer (valueOf write (c .operations) k) (nextNumber s) (noted k) w ∙ ap suc (noted-length k)
+
+  -- and stays elsewhere
+  pub count-unwritten : (k : Key) → ¬ T (writes c k) → count (update s u c) k ≡ count s k
+  unfolding update
+  count-unwritten k n = ap length (append-none (valueOf write (c .operations) k) (nextNumber s) (noted k) n) ∙ noted-length k
+
+  -- a version that was there is after the commit what it was, but for the reader that was noted
+  version-kept : (k i : ℕ) → i < count s k → version (update s u c) k i ≡ getD (noted k) i openingVersion
+  unfolding update
+  version-kept k i l = append-old (valueOf write (c .operations) k) (nextNumber s) (noted k) i (omega (arith, noted-length k))
+
+  -- what a commit wrote or read before it wrote or read after
+  pub wrote-stays : (t k i : ℕ) → Wrote s t k i → Wrote (update s u c) t k i
+  wrote-stays t k i (l, e) =
+      ( omega (arith, count-update k .0)
+      , ap (λ (v : Version). v .writer) (version-kept k i l) ∙ note-writer (valueOf read (c .operations) k) (newest u k) (nextNumber s) (s .versions k) i l ∙ e )
+
+  pub read-stays : (t k i : ℕ) → Read s t k i → Read (update s u c) t k i
+  read-stays t k i (l, r) =
+      ( omega (arith, count-update k .0)
+      , subst (λ (v : Version). T (has (v .readers) t)) (sym (version-kept k i l))
+          (note-reader (valueOf read (c .operations) k) (newest u k) (nextNumber s) (s .versions k) i l t r) )
+
+  -- the new version of a key that the commit writes is by this commit
+  pub wrote-new : (k : Key) → T (writes c k) → Wrote (update s u c) (nextNumber s) k (count s k)
+  unfolding update
+  wrote-new k w =
+      ( omega (arith, count-written k w)
+      , subst (λ (i : ℕ). version (update s u c) k i .writer ≡ nextNumber s) (noted-length k) (append-last (valueOf write (c .operations) k) (nextNumber s) (noted k) w) )
+
+  -- and this commit reads the newest version that it sees
+  pub read-new : (k : Key) → T (reads c k) → newest u k < count s k → Read (update s u c) (nextNumber s) k (newest u k)
+  read-new k r l =
+      ( omega (arith, count-update k .0)
+      , subst (λ (v : Version). T (has (v .readers) (nextNumber s))) (sym (version-kept k (newest u k) l))
+          (note-new (valueOf read (c .operations) k) (newest u k) (nextNumber s) (s .versions k) l r) )
+
+  -- so: who wrote which version after the commit
+  pub wrote-update-is : (t k i : ℕ) → Wrote (update s u c) t k i ↔ (Wrote s t k i ⊎ ((t ≡ nextNumber s) × T (writes c k) × (i ≡ count s k)))
+  wrote-update-is t k i = (wrote-update t k i, back)
+    where
+      back : Wrote s t k i ⊎ ((t ≡ nextNumber s) × T (writes c k) × (i ≡ count s k)) → Wrote (update s u c) t k i
+      back (inl w) = wrote-stays t k i w
+      back (inr (e, w, j)) = rw (e, j) (wrote-new k w)
+
+  -- and who read which
+  pub read-update-is : ((k : Key) → T (reads c k) → newest u k < count s k)
+      → (t k i : ℕ) → Read (update s u c) t k i ↔ (Read s t k i ⊎ ((t ≡ nextNumber s) × T (reads c k) × (i ≡ newest u k)))
+  read-update-is there t k i = (read-update t k i, back)
+    where
+      back : Read s t k i ⊎ ((t ≡ nextNumber s) × T (reads c k) × (i ≡ newest u k)) → Read (update s u c) t k i
+      back (inl r) = read-stays t k i r
+      back (inr (e, r, j)) = rw (e, j) (read-new k r (there k r))

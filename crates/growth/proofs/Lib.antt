@@ -1,0 +1,7 @@
+pub mod Made
+pub mod Ordered
+pub mod Links
+pub mod Steps
+pub mod Sessions
+pub mod Views
+pub mod Clauses

@@ -1,0 +1,67 @@
+-- The image's rows as the words of the judge's arrays: two numbers in a word are their bytes, one after the other. Assumes nothing.
+use Prim.Native.Nat.{ℕ, suc, _+_, _*_, _/_, _%_, _^_, _≤_, _<_}
+use mathlib.Core.Path.{_≡_, refl, sym, ap, _∙_}
+use mathlib.Core.List.{List, _++_, append-assoc}
+use native.Mathlib.Omega.{arith}
+use native.Mathlib.Numerals.{add-one}
+use lib.Arith.{digits-mod, digits-div}
+use lib.ListN.{getD}
+use Rattle.endian.specs.Endian.{leBytes}
+use Rattle.endian.proofs.Laws.{leBytes-add, leBytes-mod}
+use Rattle.store.specs.Limits.{maxCommits}
+use Rattle.store.specs.Store.{CommitNumber, Version, Store, count, version}
+use Rattle.store.specs.Image.{versionBytes, commitBytes}
+use Rattle.store.proofs.Sound.{SoundStore}
+use Rattle.state.specs.Places.{packed, headPlace, readersPlace}
+use Rattle.state.specs.Keeps.{KeepsVersions, KeepsCommits}
+use Rattle.image.specs.Parts.{ClientsFit}
+
+-- a number of m bytes and one of k bytes are a number of m + k bytes
+pub leBytes-joined : (m k low high v : ℕ) → low < 256 ^ m → v ≡ high * 256 ^ m + low → leBytes (m + k) v ≡ leBytes m low ++ leBytes k high
+leBytes-joined m k low high v fits e =
+    let below : v % 256 ^ m ≡ low = ap (λ x. x % 256 ^ m) e ∙ digits-mod high fits in
+    let above : v / 256 ^ m ≡ high = ap (λ x. x / 256 ^ m) e ∙ digits-div high fits in
+    leBytes-add m k v ∙ ap (λ l. l ++ leBytes k (v / 256 ^ m)) (sym (leBytes-mod m v) ∙ ap (leBytes m) below) ∙ ap (λ x. leBytes m low ++ leBytes k x) above
+
+-- a byte and three zeros
+pub leBytes-byte : (v : ℕ) → v < 256 → leBytes 4 v ≡ leBytes 1 v ++ leBytes 3 0
+leBytes-byte v fits = leBytes-joined 1 3 v 0 v fits (omega arith)
+
+-- "keys u8, commits u8"
+pub leBytes-counts : (n commits : ℕ) → n < 256 → leBytes 2 (n + 256 * commits) ≡ leBytes 1 n ++ leBytes 1 commits
+leBytes-counts n commits fits = leBytes-joined 1 1 n commits (n + 256 * commits) fits (omega arith)
+
+leBytes-packed : (low high : ℕ) → low < 2 ^ 32 → leBytes 8 (packed low high) ≡ leBytes 4 low ++ leBytes 4 high
+leBytes-packed low high fits = leBytes-joined 4 4 low high (packed low high) fits (omega arith)
+
+-- the head of a version: "value u32, writer u8, three zeros"
+pub leBytes-head : (value writer : ℕ) → value < 2 ^ 32 → writer < 256 → leBytes 8 (packed value writer) ≡ leBytes 4 value ++ (leBytes 1 writer ++ leBytes 3 0)
+leBytes-head value writer fits small = leBytes-packed value writer fits ∙ ap (λ l. leBytes 4 value ++ l) (leBytes-byte writer small)
+
+-- a version is two words: its head, and its readers
+pub version-words : (v : Version) → v .value < 2 ^ 32 → v .writer < 256 → leBytes 8 (packed (v .value) (v .writer)) ++ leBytes 8 (v .readers) ≡ versionBytes v
+unfolding versionBytes
+version-words v fits small = rw (leBytes-head (v .value) (v .writer) fits small) (simp append-assoc)
+
+-- a commit is one word: "client u8, three zeros, session number u32"
+pub commit-word : (s : Store) (t : CommitNumber) → s .clientOf t < 256 → leBytes 8 (packed (s .clientOf t) (s .sessionOf t)) ≡ commitBytes s t
+unfolding commitBytes
+commit-word s t small =
+    leBytes-packed (s .clientOf t) (s .sessionOf t) (omega arith)
+    ∙ ap (λ l. l ++ leBytes 4 (s .sessionOf t)) (leBytes-byte (s .clientOf t) small)
+    ∙ append-assoc (leBytes 1 (s .clientOf t)) (leBytes 3 0) (leBytes 4 (s .sessionOf t))
+
+-- ---- in the arrays
+
+-- the writers of a store with at most 63 commits have room in a byte
+writer-small : (s : Store) (k i : ℕ) → SoundStore s → s .commits ≤ maxCommits → i < count s k → version s k i .writer < 256
+writer-small s k i sound few l = omega (arith, sound .writers (version s k i .writer) k i (l, refl))
+
+pub version-kept : (s : Store) (versions : List ℕ) (k i : ℕ) → KeepsVersions s versions → SoundStore s → s .commits ≤ maxCommits → i < count s k
+    → leBytes 8 (getD versions (headPlace k i) 0) ++ leBytes 8 (getD versions (readersPlace k i) 0) ≡ versionBytes (version s k i)
+version-kept s versions k i kept sound few l =
+    rw (kept .heads k i l, kept .readers k i l) (version-words (version s k i) (kept .value-fits k i l) (writer-small s k i sound few l))
+
+pub commit-kept : (s : Store) (commits : List ℕ) (i : ℕ) → KeepsCommits s commits → ClientsFit s → i < s .commits
+    → leBytes 8 (getD commits (i + 1) 0) ≡ commitBytes s (suc i)
+commit-kept s commits i kept fit l = rw (add-one i, kept .log (suc i) (omega arith) l) (commit-word s (suc i) (fit (suc i) (omega arith) l))
