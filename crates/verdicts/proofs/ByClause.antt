@@ -24,7 +24,7 @@ use Rattle.verdicts.specs.declared.Wanted.{Wanted}
 use Rattle.verdicts.specs.Wants.{Lacks, Wants}
 use Rattle.verdicts.specs.AtHand.{AtHand}
 use Rattle.verdicts.specs.Verdicts.{FailingClauses}
-use Rattle.verdicts.proofs.Common.{common-is}
+use Rattle.views.proofs.Words.{both-is}
 use Rattle.verdicts.proofs.FirstFailing.{same-clause, number-range}
 
 -- the other way round
@@ -35,8 +35,8 @@ back (f, g) = (g, f)
 none-lacking : (s : Store) (u : View) (W : CommitNumber → Type 0) (m lacking : Set) → IsSet lacking (Lacking s u) → (Lacks s u → IsSet m W)
     → (bitAnd m lacking ≡ 0) ↔ (¬ LacksOneOf s u W)
 none-lacking s u W m lacking is h = let e = empty-is (bitAnd m lacking) in (
-  λ z (a, w, x). e .0 z a (common-is m lacking a .1 (h (a, x) a .1 w, is a .1 x)),
-  λ n. e .1 (λ a t. let y = common-is m lacking a .0 t in let x = is a .0 (y .1) in n (a, h (a, x) a .0 (y .0), x)),
+  λ z (a, w, x). e .0 z a (both-is m lacking a .1 (h (a, x) a .1 w, is a .1 x)),
+  λ n. e .1 (λ a t. let y = both-is m lacking a .0 t in let x = is a .0 (y .1) in n (a, h (a, x) a .0 (y .0), x)),
 )
 
 module _ (s : Store) (u : View) (c : Commit) (w : Wanted) (lost own : Found) (h : AtHand s u c w lost own) where

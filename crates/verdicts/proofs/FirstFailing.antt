@@ -19,7 +19,7 @@ use Rattle.store.specs.Missing.{Place}
 use Rattle.levels.specs.Clause.{Clause, monotonicReads, readYourWrites, monotonicWrites, writesFollowReads, updateAtomic, consistentPrefix, snapshotIsolation, serialisability, clauseNumber, missingBy}
 use Rattle.levels.specs.Level.{SER, levels, clausesOf, Failure, failure, failsClauses}
 use Rattle.verdicts.specs.Verdicts.{levelAt, numbersOf, FailingClauses}
-use Rattle.verdicts.proofs.Common.{common-is}
+use Rattle.views.proofs.Words.{both-is}
 
 -- ---- numbers of clauses
 
@@ -150,7 +150,7 @@ module _ (n : ℕ) (s : Store) (u : View) (c : Commit) (failing : Set) (h : Fail
 
   -- a level none of whose clauses is in the set does not fail
   pub level-passes : (i : ℕ) → bitAnd (numbersOf (clausesOf (levelAt i))) failing ≡ 0 → failsClauses n s u c (clausesOf (levelAt i)) ≡ none
-  level-passes i e = none-failing (clausesOf (levelAt i)) (λ j t f. has-none j (subst (λ (m : Set). T (has m j)) e (common-is (numbersOf (clausesOf (levelAt i))) failing j .1 (t, f))))
+  level-passes i e = none-failing (clausesOf (levelAt i)) (λ j t f. has-none j (subst (λ (m : Set). T (has m j)) e (both-is (numbersOf (clausesOf (levelAt i))) failing j .1 (t, f))))
 
   -- and another fails by the clause of the lowest number in both sets
   pub level-fails : (i : ℕ) (struck : Set) → struck ≡ bitAnd (numbersOf (clausesOf (levelAt i))) failing → 0 < struck → struck < 2 ^ 64
@@ -160,7 +160,7 @@ module _ (n : ℕ) (s : Store) (u : View) (c : Commit) (failing : Set) (h : Fail
       xs : List Clause
       xs = clausesOf (levelAt i)
       members : (j : ℕ) → T (has struck j) ↔ (T (has (numbersOf xs) j) × T (has failing j))
-      members j = rw e (common-is (numbersOf xs) failing j)
+      members j = rw e (both-is (numbersOf xs) failing j)
       inside : T (has (numbersOf xs) (lowest struck)) × T (has failing (lowest struck))
       inside = members (lowest struck) .0 (has-lowest struck p l)
       x : Clause

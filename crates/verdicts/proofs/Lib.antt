@@ -1,7 +1,7 @@
 pub mod Gathering
 pub mod TableOfLevels
 pub mod MissingSame
-pub mod Common
 pub mod FirstFailing
 pub mod OnSets
 pub mod ByClause
+pub mod Searches

@@ -1,12 +1,10 @@
 -- The sets of commits that the clauses want, from the arrays. Assumes nothing.
 use Prim.Native.Nat.{ℕ, _+_, _*_, _^_, _<_}
 use mathlib.Core.Path.{_≡_, subst}
-use mathlib.Core.Bool.{Bool, true, false}
 use mathlib.Core.Logic.{_↔_}
 use mathlib.Core.List.{List}
 use lib.Dec.{T}
 use lib.ListN.{getD}
-use Rattle.search.specs.Choose.{isSome, when}
 use Rattle.search.proofs.Tests.{same}
 use Rattle.sets.specs.Set.{Set, has, without}
 use Rattle.sets.proofs.Laws.{has-none, has-lt}
@@ -24,6 +22,7 @@ use Rattle.growth.proofs.Clauses.{LeadsToHeld}
 use Rattle.state.specs.Places.{numbers}
 use Rattle.state.specs.Keeps.{IsSet, KeepsKeys, KeepsCommits, KeepsOperations, Step}
 use Rattle.state.proofs.Sets.{isSet-as, isSet-without}
+use Rattle.views.proofs.Codes.{writes-is}
 use Rattle.paths.specs.Path.{LeadsInto}
 use Rattle.verdicts.specs.declared.Wanted.{Wanted}
 use Rattle.verdicts.specs.Sources.{InRows, InKeys, InAnyKey}
@@ -31,12 +30,7 @@ use Rattle.verdicts.specs.Wants.{Lacks, Wants}
 
 -- a key is written where its rank is in the set
 pub writes-ranked : {c : Commit} {ranks : Set} {values : List ℕ} → KeepsOperations c ranks values → (k : Key) → T (writes c k) ↔ T (has ranks (2 * k + 1))
-unfolding isSome when
-writes-ranked {c} {ranks} {values} h k = rw (h .writes k) (is-some (has ranks (2 * k + 1)))
-  where
-    is-some : (b : Bool) → T (isSome (when b (getD values (2 * k + 1) 0))) ↔ T b
-    is-some true = same
-    is-some false = same
+writes-ranked {c} {ranks} {values} h k = rw (writes-is c ranks values h k) same
 
 module _ (s : Store) (u : View) (seen : Set) (h : IsSet seen (Holds (history s) (held u))) where
   -- the writers of the store of which the view holds nothing
