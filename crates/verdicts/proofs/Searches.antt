@@ -2,7 +2,8 @@
 use Prim.Native.Nat.{ℕ, _^_, _<_}
 use mathlib.Core.Path.{_≡_, refl, sym, ap, _∙_, subst}
 use mathlib.Core.Bool.{true}
-use mathlib.Core.Logic.{_⊎_, inl, inr, _↔_}
+use mathlib.Core.Logic.{_⊎_, inl, inr, _↔_, _≢_}
+use mathlib.Core.Option.{Option}
 use mathlib.Core.List.{List}
 use native.Mathlib.Omega.{arith}
 use lib.Dec.{T}
@@ -18,7 +19,7 @@ use Rattle.dependencies.specs.History.{Holds}
 use Rattle.dependencies.specs.History as D
 use Rattle.store.specs.Store.{Key, VersionNumber, CommitNumber, View, Store, count, version, nextNumber, Commit}
 use Rattle.store.specs.Update.{writes, update}
-use Rattle.store.specs.Missing.{Rule, missing}
+use Rattle.store.specs.Missing.{Place, Rule, missing}
 use Rattle.store.specs.Links.{wrote, hasRead, holds, SO, prefixLinks, snapshotLinks, oneOrMore}
 use Rattle.store.specs.Refusal.{allOf}
 use Rattle.store.proofs.Updated.{count-update}
@@ -26,7 +27,7 @@ use Rattle.store.proofs.Sound.{IsView, SoundStore}
 use Rattle.store.proofs.Links.{history, held, stored-below, holds-means, so-means, prefix-paths, snapshot-paths}
 use Rattle.growth.proofs.Views.{Lacking, held-writer}
 use Rattle.growth.proofs.Clauses.{LeadsToHeld}
-use Rattle.levels.specs.Clause.{Clause, monotonicReads, readYourWrites, monotonicWrites, writesFollowReads, updateAtomic, consistentPrefix, snapshotIsolation, serialisability, leadingTo, readBefore, wants, missingBy}
+use Rattle.levels.specs.Clause.{Clause, monotonicReads, readYourWrites, monotonicWrites, writesFollowReads, updateAtomic, consistentPrefix, snapshotIsolation, serialisability, clauseNumber, leadingTo, readBefore, wants, missingBy}
 use Rattle.state.specs.Keeps.{IsSet, Step, KeepsOperations}
 use Rattle.state.proofs.Sets.{isSet-union}
 use Rattle.views.specs.Rules.{byWriter, byReader, ofWritten}
@@ -34,6 +35,7 @@ use Rattle.views.specs.Words.{meets}
 use Rattle.views.proofs.Words.{meets-is}
 use Rattle.verdicts.specs.Wants.{Lacks}
 use Rattle.verdicts.proofs.OnSets.{writes-ranked}
+use Rattle.verdicts.proofs.FirstFailing.{same-clause}
 use Rattle.verdicts.proofs.MissingSame.{Misses, missing-same}
 
 -- ---- clauses 1 and 2
@@ -137,3 +139,19 @@ module _ (s : Store) (h : SoundStore s) (u : View) (v : IsView s u) where
     pub lacking-missing : (m : Set) → IsSet m (Lacking s u) → missing s (byWriter s m) u ≡ missingBy s u c serialisability
     unfolding missingBy wants choose
     lacking-missing m is = rules-agree (byWriter s m) (λ k i. true) (λ k i x. (λ t. tt, λ t. is (version s k i .writer) .1 x))
+
+-- the clause of a number is the one that has it
+pub at-clause : (s : Store) (u : View) (c : Commit) (y x : Clause) {clause : ℕ} {p : Option Place} → clauseNumber x ≡ clause → clause ≡ clauseNumber y
+    → p ≡ missingBy s u c y → p ≡ missingBy s u c x
+at-clause s u c y x e f h = h ∙ ap (missingBy s u c) (sym (same-clause x y (e ∙ f)))
+
+-- the last one is what none of the others is
+pub last-clause : (x : Clause) {n : ℕ} → clauseNumber x ≡ n → n ≢ 1 → n ≢ 2 → n ≢ 3 → n ≢ 4 → n ≢ 5 → n ≢ 6 → n ≢ 7 → n ≡ clauseNumber serialisability
+last-clause monotonicReads q a b c d e f g = absurd (a (sym q))
+last-clause readYourWrites q a b c d e f g = absurd (b (sym q))
+last-clause monotonicWrites q a b c d e f g = absurd (c (sym q))
+last-clause writesFollowReads q a b c d e f g = absurd (d (sym q))
+last-clause updateAtomic q a b c d e f g = absurd (e (sym q))
+last-clause consistentPrefix q a b c d e f g = absurd (f (sym q))
+last-clause snapshotIsolation q a b c d e f g = absurd (g (sym q))
+last-clause serialisability q a b c d e f g = sym q
