@@ -5,3 +5,4 @@ pub mod FirstFailing
 pub mod OnSets
 pub mod ByClause
 pub mod Searches
+pub mod Noted

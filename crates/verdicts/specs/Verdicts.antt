@@ -3,13 +3,16 @@ use Prim.Native.Nat.{ℕ, _+_, _*_, _<_}
 use mathlib.Core.Path.{_≡_}
 use mathlib.Core.Option.{Option, some, none}
 use mathlib.Core.List.{List, [], _∷_}
-use mathlib.Core.Logic.{_↔_}
+use mathlib.Core.Logic.{_↔_, _≢_}
 use lib.Dec.{T}
-use lib.ListN.{length, getD}
+use lib.ListN.{length, getD, set}
+use Rattle.search.specs.Choose.{orElse}
 use Rattle.sets.specs.Set.{Set, has, insert}
 use Rattle.store.specs.Store.{View, Store, Commit}
 use Rattle.levels.specs.Clause.{Clause, clauseNumber, missingBy}
 use Rattle.levels.specs.Level.{Level, SER, levels, Failure}
+use Rattle.state.specs.declared.Found.{Found}
+use Rattle.state.specs.declared.Found.the-variants.{At, Nothing}
 
 -- the level at a place in report order
 abbrev pub levelAt : ℕ → Level
@@ -50,3 +53,15 @@ pub record KeepsVerdicts (fs : Level → Option Failure) (verdicts : List ℕ) :
 -- the set of the numbers of the clauses by which something is missing
 pub record FailingClauses (s : Store) (u : View) (c : Commit) (failing : Set) : Type 0 where
   pub is : (x : Clause) → T (has failing (clauseNumber x)) ↔ (¬ (missingBy s u c x ≡ none))
+
+-- ---- a failure written down
+
+-- the words of the level at place i after a search by a clause; a search that found nothing leaves them
+unfoldable pub writtenDown : List ℕ → ℕ → ℕ → ℕ → Found → List ℕ
+writtenDown verdicts i clause n (At k v) = set (set (set (set verdicts (clausePlace i) clause) (recordPlace i) n) (keyPlace i) (k .0)) (versionPlace i) (v .0)
+writtenDown verdicts i clause n Nothing = verdicts
+
+-- the level at place i keeps its failure, or takes the new one where it had none; the other levels keep theirs
+pub record NotesLevel (i : ℕ) (new : Option Failure) (before after : List ℕ) : Type 0 where
+  pub here : (old : Option Failure) → KeepsVerdict before i old → KeepsVerdict after i (orElse old new)
+  pub there : (j : ℕ) → j < length levels → j ≢ i → (old : Option Failure) → KeepsVerdict before j old → KeepsVerdict after j old

@@ -2,6 +2,7 @@
 // applied, so all arrays keep the store before it; `fresh` has the masks of its view after. The arrays are described in crates/state/specs.
 pub mod clauses;
 pub mod missing;
+pub mod report;
 pub mod sources;
 pub mod table;
 
