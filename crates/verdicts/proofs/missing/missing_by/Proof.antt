@@ -1,97 +1,78 @@
+-- `verdicts::missing::missing_by` meets its contract, one clause to an arm. Assumes nothing.
 use mathlib.Core.Path.{ap, _∙_}
+use borrow.Author.Needs.{needs}
 use Rattle.sets.specs.Set.{Set}
 use Rattle.store.specs.Missing.{missing}
 use Rattle.levels.specs.Clause.{monotonicReads, readYourWrites, monotonicWrites, writesFollowReads, updateAtomic, consistentPrefix, snapshotIsolation, serialisability}
 use Rattle.views.specs.Rules.{byReader}
 use Rattle.verdicts.proofs.Searches.{before-missing, prefix-missing, snapshot-missing, read-missing, written-missing, lacking-missing, at-clause, last-clause}
-use borrow.Author.Needs.{needs}
 use Rattle.verdicts.proofs.missing.missing_by.Statement.{statement}
 use Rattle.verdicts.proofs.missing.missing_by.Tie as tie
-use Rattle.verdicts.proofs.missing.missing_by.Reads as reads
-use Rattle.verdicts.proofs.missing.missing_by.Lts as lts
-use Rattle.sets.proofs.union.Reads as union-reads
-use Rattle.views.proofs.missing.least_absent.Reads as least-absent-reads
-use Rattle.views.proofs.missing.least_by_reader.Reads as least-by-reader-reads
-use Rattle.views.proofs.missing.least_by_writer.Reads as least-by-writer-reads
 
--- src/missing.rt:20:14
 least-by-writer-requires : tie.Need-least-by-writer-requires
 least-by-writer-requires c κs = search needs
 
--- src/missing.rt:21:75
 union-requires : tie.Need-union-requires
 union-requires c κs = search needs
 
--- src/missing.rt:21:14
 least-by-reader-requires : tie.Need-least-by-reader-requires
 least-by-reader-requires c κs = search needs
 
--- src/missing.rt:22:14
 least-absent-requires : tie.Need-least-absent-requires
 least-absent-requires c κs = search needs
 
--- src/missing.rt:23:14
 least-by-writer-requires-2 : tie.Need-least-by-writer-requires-2
 least-by-writer-requires-2 c κs = search needs
 
--- src/missing.rt:24:14
 least-by-writer-requires-3 : tie.Need-least-by-writer-requires-3
 least-by-writer-requires-3 c κs = search needs
 
--- src/missing.rt:25:14
 least-by-writer-requires-4 : tie.Need-least-by-writer-requires-4
 least-by-writer-requires-4 c κs = search needs
 
--- src/missing.rt:13:1
 returns : tie.Need-returns
 returns c =
     λ s u commit values j x e.
     at-clause s u commit monotonicReads x e (c .match .keys1)
     (j .at-hand .lost-is)
 
--- src/missing.rt:13:1
 returns-2 : tie.Need-returns-2
 returns-2 c =
     λ s u commit values j x e.
     at-clause s u commit readYourWrites x e (c .match .keys2)
     (j .at-hand .own-is)
 
--- src/missing.rt:13:1
 returns-3 : tie.Need-returns-3
 returns-3 c =
     λ s u commit values j x e.
     at-clause s u commit monotonicWrites x e (c .before .match .keys3)
     (c .least-by-writer .ensures s u (j .arrays) ∙ before-missing s (j .at-hand .sound) u (j .at-hand .view) commit (c .before .before .before .before .before .args .w .before) (j .at-hand .wants .before))
 
--- src/missing.rt:13:1
 returns-4 : tie.Need-returns-4
 returns-4 c =
+    let entry = c .before .before .before .before .before .before in
     λ s u commit values j x e.
     at-clause s u commit writesFollowReads x e (c .before .before .match .keys4)
-    (c .least-by-reader .ensures s u (j .arrays) ∙ ap (λ (m : Set). missing s (byReader s m) u) (c .before .union .ensures) ∙ read-missing s (j .at-hand .sound) u (j .at-hand .view) commit (c .before .before .before .before .before .before .args .w .before) (c .before .before .before .before .before .before .args .seen) (search needs) (search needs) (j .at-hand .wants .before) (j .holds))
+    (c .least-by-reader .ensures s u (j .arrays) ∙ ap (λ (m : Set). missing s (byReader s m) u) (c .before .union .ensures) ∙ read-missing s (j .at-hand .sound) u (j .at-hand .view) commit (entry .args .w .before) (entry .args .seen) (search needs) (search needs) (j .at-hand .wants .before) (j .holds))
 
--- src/missing.rt:13:1
 returns-5 : tie.Need-returns-5
 returns-5 c =
     λ s u commit values j x e.
     at-clause s u commit updateAtomic x e (c .before .match .keys5)
     (c .least-absent .ensures s u (j .arrays .number) (j .arrays .in-keys) (j .arrays .in-masks) ∙ written-missing s (j .at-hand .sound) u (j .at-hand .view) commit (c .before .before .before .before .before .args .ranks) values (j .operations))
 
--- src/missing.rt:13:1
 returns-6 : tie.Need-returns-6
 returns-6 c =
     λ s u commit values j x e.
     at-clause s u commit consistentPrefix x e (c .before .match .keys6)
     (c .least-by-writer2 .ensures s u (j .arrays) ∙ prefix-missing s (j .at-hand .sound) u (j .at-hand .view) commit (c .before .before .before .before .before .args .w .prefix) (j .at-hand .wants .prefix))
 
--- src/missing.rt:13:1
 returns-7 : tie.Need-returns-7
 returns-7 c =
     λ s u commit values j x e.
     at-clause s u commit snapshotIsolation x e (c .before .match .keys7)
     (c .least-by-writer3 .ensures s u (j .arrays) ∙ snapshot-missing s (j .at-hand .sound) u (j .at-hand .view) commit (c .before .before .before .before .before .args .w .snapshot) (j .at-hand .wants .snapshot))
 
--- src/missing.rt:13:1
 returns-8 : tie.Need-returns-8
 returns-8 c =
     λ s u commit values j x e.

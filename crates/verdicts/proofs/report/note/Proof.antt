@@ -1,8 +1,9 @@
-use borrow.Author.Needs.{needs}
+-- `verdicts::report::note` meets its contract. The loop's invariant: the levels before this one have been noted. Assumes nothing.
 use Prim.Native.Nat.{ℕ, _-_, _≤_}
 use mathlib.Core.Path.{_≡_}
 use mathlib.Core.List.{List}
 use lib.ListN.{length}
+use borrow.Author.Needs.{needs}
 use Rattle.store.specs.Store.{Store, View, Commit}
 use Rattle.levels.specs.Level.{clausesOf, failsClauses}
 use Rattle.verdicts.specs.AtHand.{Judging}
@@ -10,9 +11,6 @@ use Rattle.verdicts.specs.Verdicts.{levelAt, FailingClauses}
 use Rattle.verdicts.proofs.Noted.{Noted, noted-none, noted-on, noted-all}
 use Rattle.verdicts.proofs.report.note.Statement.{statement}
 use Rattle.verdicts.proofs.report.note.Tie as tie
-use Rattle.verdicts.proofs.report.note.Reads as reads
-use Rattle.verdicts.proofs.report.note.Lts as lts
-use Rattle.verdicts.proofs.report.note_level.Reads as note-level-reads
 
 abbrev Inv-loop : tie.InvT-loop
 Inv-loop verdicts₀ failing number w lost own seen ranks versions keys views base n level₀ verdicts level =
@@ -23,32 +21,25 @@ Inv-loop verdicts₀ failing number w lost own seen ranks versions keys views ba
 abbrev μ-loop : tie.MeasureT-loop
 μ-loop verdicts₀ failing number w lost own seen ranks versions keys views base n level₀ verdicts level = 10 - level
 
--- src/report.rt:56:5
 loop-holds : tie.Need-loop-holds Inv-loop μ-loop
 loop-holds c = (search needs, search needs, λ s u commit values j h. noted-none _ _)
 
--- src/report.rt:57:9
 note-level-requires : tie.Need-note-level-requires Inv-loop μ-loop
 note-level-requires c κs = search needs
 
--- src/report.rt:58:17
 add-level : tie.Need-add-level Inv-loop μ-loop
 add-level c = search needs
 
--- src/report.rt:56:5
 loop-less : tie.Need-loop-less Inv-loop μ-loop
 loop-less c = search needs
 
--- src/report.rt:56:5
 loop-again : tie.Need-loop-again Inv-loop μ-loop
 loop-again c =
     (search needs, search needs, λ s u commit values j h. noted-on (c .before .before .before .before .before .loop .inv .2 s u commit values j h) (search needs) (c .before .before .note-level .ensures s u commit values j h))
 
--- src/report.rt:51:1
 same-length : tie.Need-same-length Inv-loop μ-loop
 same-length c = search needs
 
--- src/report.rt:51:1
 returns : tie.Need-returns Inv-loop μ-loop
 returns c =
     λ s u commit values fs j h k.

@@ -1,15 +1,12 @@
-use mathlib.Core.Logic.{⊎-elim}
-use borrow.Author.Needs.{needs}
+-- `verdicts::sources::written` meets its contract. The loop's invariant: the writers of the keys below k are gathered. Assumes nothing.
 use Prim.Native.Nat.{_-_, _≤_}
+use mathlib.Core.Logic.{⊎-elim}
 use mathlib.Core.Path.{_≡_, sym, _∙_}
 use lib.ListN.{length}
+use borrow.Author.Needs.{needs}
 use Rattle.verdicts.proofs.Gathering.{UpTo, up-to-none, up-to-taken, up-to-left, up-to-all}
 use Rattle.verdicts.proofs.sources.written.Statement.{statement}
 use Rattle.verdicts.proofs.sources.written.Tie as tie
-use Rattle.verdicts.proofs.sources.written.Reads as reads
-use Rattle.verdicts.proofs.sources.written.Lts as lts
-use Rattle.sets.proofs.has.Reads as has-reads
-use Rattle.sets.proofs.union.Reads as union-reads
 
 abbrev Inv-loop : tie.InvT-loop
 Inv-loop keys ranks n all₀ k₀ all k = (n ≤ 16) × (length keys ≡ 32) × (k ≤ n) × UpTo keys ranks k all
@@ -17,51 +14,39 @@ Inv-loop keys ranks n all₀ k₀ all k = (n ≤ 16) × (length keys ≡ 32) × 
 abbrev μ-loop : tie.MeasureT-loop
 μ-loop keys ranks n all₀ k₀ all k = n - k
 
--- src/sources.rt:30:5
 loop-holds : tie.Need-loop-holds Inv-loop μ-loop
 loop-holds c = (search needs, search needs, search needs, up-to-none _ _)
 
--- src/sources.rt:31:29
 mul-has : tie.Need-mul-has Inv-loop μ-loop
 mul-has c = search needs
 
--- src/sources.rt:31:29
 add-has : tie.Need-add-has Inv-loop μ-loop
 add-has c = search needs
 
--- src/sources.rt:31:12
 has-requires : tie.Need-has-requires Inv-loop μ-loop
 has-requires c κs = search needs
 
--- src/sources.rt:32:41
 add-union : tie.Need-add-union Inv-loop μ-loop
 add-union c = search needs
 
--- src/sources.rt:32:36
 mul-union : tie.Need-mul-union Inv-loop μ-loop
 mul-union c = search needs
 
--- src/sources.rt:32:36
 shared-slice-read-union : tie.Need-shared-slice-read-union Inv-loop μ-loop
 shared-slice-read-union c = search needs
 
--- src/sources.rt:32:13
 union-requires : tie.Need-union-requires Inv-loop μ-loop
 union-requires c κs = search needs
 
--- src/sources.rt:34:13
 add-k : tie.Need-add-k Inv-loop μ-loop
 add-k c = search needs
 
--- src/sources.rt:30:5
 loop-less : tie.Need-loop-less Inv-loop μ-loop
 loop-less c = search needs
 
--- src/sources.rt:30:5
 loop-again : tie.Need-loop-again Inv-loop μ-loop
 loop-again c = (search needs, search needs, search needs, ⊎-elim (λ w. rw (w .3) (up-to-taken (c .before .before .before .loop .inv .3) (sym (c .before .has .ensures) ∙ w .0 .taken) (w .2 .ensures))) (λ w. rw (w .1) (up-to-left (c .before .before .before .loop .inv .3) (sym (c .before .has .ensures) ∙ w .0 .left))) (c .if1 .came))
 
--- src/sources.rt:24:1
 returns : tie.Need-returns Inv-loop μ-loop
 returns c = up-to-all (c .before .loop .inv .3) (search needs) (search needs)
 

@@ -1,19 +1,15 @@
-use Rattle.verdicts.proofs.TableOfLevels.{table-entry}
+-- `verdicts::table::clauses_of` meets its contract. Assumes nothing.
 use borrow.Author.Needs.{needs}
+use Rattle.verdicts.proofs.TableOfLevels.{table-entry}
 use Rattle.verdicts.proofs.table.clauses_of.Statement.{statement}
 use Rattle.verdicts.proofs.table.clauses_of.Tie as tie
-use Rattle.verdicts.proofs.table.clauses_of.Reads as reads
-use Rattle.verdicts.proofs.table.clauses_of.Lts as lts
 
--- src/table.rt:15:5
 mul-result : tie.Need-mul-result
 mul-result c = search needs
 
--- src/table.rt:15:5
 array-read-result : tie.Need-array-read-result
 array-read-result c = search needs
 
--- src/table.rt:11:1
 returns : tie.Need-returns
 returns c = table-entry (c .args .level) (c .pre)
 
