@@ -1,9 +1,9 @@
 -- Each clause on sets of commits: it passes exactly where what it wants and what is lacking have nothing in common; and the set of the failing clauses,
 -- made clause by clause. Assumes nothing.
-use Prim.Native.Nat.{ℕ, suc, _≤_, _<_}
-use mathlib.Core.Path.{_≡_, refl, sym, ap, _∙_, subst}
+use Prim.Native.Nat.{ℕ, suc, _<_}
+use mathlib.Core.Path.{_≡_, refl, sym, _∙_, subst}
 use mathlib.Core.Logic.{_⊎_, inl, inr, _↔_}
-use mathlib.Core.Option.{Option, none}
+use mathlib.Core.Option.{none}
 use native.Mathlib.Omega.{arith}
 use native.Mathlib.Decide.{ℕ-discrete}
 use lib.Dec.{T}
@@ -21,7 +21,7 @@ use Rattle.state.specs.declared.Found.{Found}
 use Rattle.state.specs.Keeps.{IsSet}
 use Rattle.state.specs.Answers.{placeOf}
 use Rattle.verdicts.specs.declared.Wanted.{Wanted}
-use Rattle.verdicts.specs.Wants.{Lacks, Wants}
+use Rattle.verdicts.specs.Wants.{Lacks}
 use Rattle.verdicts.specs.AtHand.{AtHand}
 use Rattle.verdicts.specs.Verdicts.{FailingClauses}
 use Rattle.views.proofs.Words.{both-is}

@@ -12,7 +12,7 @@ use lib.ListN.{getD}
 use lib.Bits.{bitAnd}
 use Rattle.search.specs.Choose.{mapSome, orElse}
 use Rattle.search.proofs.Tests.{T?, some-none, and-left, and-right}
-use Rattle.sets.specs.Set.{Set, has, insert, lowest}
+use Rattle.sets.specs.Set.{Set, has, lowest}
 use Rattle.sets.proofs.Laws.{has-none, insert-has, has-insert, insert-self, has-lowest, lowest-least}
 use Rattle.store.specs.Store.{View, Store, nextNumber, Commit}
 use Rattle.store.specs.Missing.{Place}

@@ -6,3 +6,4 @@ pub mod OnSets
 pub mod ByClause
 pub mod Searches
 pub mod Noted
+pub mod Judged

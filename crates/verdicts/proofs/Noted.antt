@@ -1,7 +1,7 @@
 -- Failures written down: at one level, and at all levels one after the other. Assumes nothing.
 use Prim.Native.Nat.{ℕ, _+_, _^_, _≤_, _<_}
-use mathlib.Core.Path.{_≡_, refl, sym, ap, _∙_, subst}
-use mathlib.Core.Logic.{_⊎_, inl, inr, _≢_}
+use mathlib.Core.Path.{_≡_, refl, sym, _∙_}
+use mathlib.Core.Logic.{_≢_}
 use mathlib.Core.Option.{Option, some, none}
 use mathlib.Core.List.{List}
 use native.Mathlib.Omega.{arith}
@@ -18,7 +18,7 @@ use Rattle.state.specs.declared.Found.{Found}
 use Rattle.state.specs.declared.Found.the-variants.{At, Nothing}
 use Rattle.state.specs.Answers.{placeOf}
 use Rattle.verdicts.specs.Verdicts.{levelAt, numbersOf, KeepsVerdict, KeepsVerdicts, FailingClauses, writtenDown, NotesLevel}
-use Rattle.verdicts.proofs.FirstFailing.{number-range, level-passes, level-fails}
+use Rattle.verdicts.proofs.FirstFailing.{number-range, level-fails}
 
 -- ---- four words
 
@@ -105,7 +105,7 @@ this-level v i n t x (At k j) room l e = (
 
 -- ---- one level
 
-orElse-end : {A : Type 0} (o : Option A) → orElse o none ≡ o
+pub orElse-end : {A : Type 0} (o : Option A) → orElse o none ≡ o
 unfolding orElse
 orElse-end none = refl
 orElse-end (some a) = refl

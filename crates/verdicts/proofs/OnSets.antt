@@ -24,7 +24,6 @@ use Rattle.state.specs.Keeps.{IsSet, KeepsKeys, KeepsCommits, KeepsOperations, 
 use Rattle.state.proofs.Sets.{isSet-as, isSet-without}
 use Rattle.views.proofs.Codes.{writes-is}
 use Rattle.paths.specs.Path.{LeadsInto}
-use Rattle.verdicts.specs.declared.Wanted.{Wanted}
 use Rattle.verdicts.specs.Sources.{InRows, InKeys, InAnyKey}
 use Rattle.verdicts.specs.Wants.{Lacks, Wants}
 

@@ -1,6 +1,6 @@
 -- What is missing by each clause, as the searches of crate views find it. Assumes nothing.
 use Prim.Native.Nat.{ℕ, _^_, _<_}
-use mathlib.Core.Path.{_≡_, refl, sym, ap, _∙_, subst}
+use mathlib.Core.Path.{_≡_, refl, sym, ap, _∙_}
 use mathlib.Core.Bool.{true}
 use mathlib.Core.Logic.{_⊎_, inl, inr, _↔_, _≢_}
 use mathlib.Core.Option.{Option}
@@ -17,7 +17,7 @@ use Rattle.relations.specs.Relation.{Relation, Plus}
 use Rattle.relations.proofs.Closure.{Means}
 use Rattle.dependencies.specs.History.{Holds}
 use Rattle.dependencies.specs.History as D
-use Rattle.store.specs.Store.{Key, VersionNumber, CommitNumber, View, Store, count, version, nextNumber, Commit}
+use Rattle.store.specs.Store.{CommitNumber, View, Store, count, version, nextNumber, Commit}
 use Rattle.store.specs.Update.{writes, update}
 use Rattle.store.specs.Missing.{Place, Rule, missing}
 use Rattle.store.specs.Links.{wrote, hasRead, holds, SO, prefixLinks, snapshotLinks, oneOrMore}
@@ -31,12 +31,11 @@ use Rattle.levels.specs.Clause.{Clause, monotonicReads, readYourWrites, monoton
 use Rattle.state.specs.Keeps.{IsSet, Step, KeepsOperations}
 use Rattle.state.proofs.Sets.{isSet-union}
 use Rattle.views.specs.Rules.{byWriter, byReader, ofWritten}
-use Rattle.views.specs.Words.{meets}
 use Rattle.views.proofs.Words.{meets-is}
 use Rattle.verdicts.specs.Wants.{Lacks}
 use Rattle.verdicts.proofs.OnSets.{writes-ranked}
 use Rattle.verdicts.proofs.FirstFailing.{same-clause}
-use Rattle.verdicts.proofs.MissingSame.{Misses, missing-same}
+use Rattle.verdicts.proofs.MissingSame.{missing-same}
 
 -- ---- clauses 1 and 2
 

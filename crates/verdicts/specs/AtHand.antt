@@ -1,16 +1,17 @@
 -- What is at hand where a commit is judged. Assumes nothing.
-use Prim.Native.Nat.{ℕ}
+use Prim.Native.Nat.{ℕ, _<_}
 use mathlib.Core.Path.{_≡_}
 use mathlib.Core.List.{List}
 use Rattle.sets.specs.Set.{Set}
 use Rattle.dependencies.specs.History.{Holds}
+use Rattle.store.specs.Limits.{maxCommits}
 use Rattle.store.specs.Store.{View, Store, Commit}
 use Rattle.store.specs.Update.{update}
 use Rattle.store.proofs.Sound.{IsView, SoundStore}
 use Rattle.store.proofs.Links.{history, held}
 use Rattle.levels.specs.Clause.{monotonicReads, readYourWrites, missingBy}
 use Rattle.state.specs.declared.Found.{Found}
-use Rattle.state.specs.Keeps.{IsSet, KeepsOperations}
+use Rattle.state.specs.Keeps.{IsSet, KeepsCommits, KeepsLinks, KeepsMasks, KeepsOperations}
 use Rattle.state.specs.Answers.{placeOf}
 use Rattle.views.specs.Rules.{StoreAndView}
 use Rattle.verdicts.specs.declared.Wanted.{Wanted}
@@ -31,3 +32,15 @@ pub record Judging (s : Store) (u : View) (c : Commit) (w : Wanted) (lost own : 
   pub holds : IsSet seen (Holds (history s) (held u))
   pub operations : KeepsOperations c ranks values
   pub arrays : StoreAndView s u n versions keys views base
+
+-- before anything of commit c, made on view u of store s, is applied: the arrays keep s; u stands in `views` from `base` on, the view after in `fresh`
+pub record BeforeCommit (s : Store) (u : View) (c : Commit) (versions keys commits links views fresh values : List ℕ) (seen ranks : Set) (base n : ℕ) : Type 0 where
+  pub arrays : StoreAndView s u n versions keys views base
+  pub view : IsView s u
+  pub sound-after : SoundStore (update s u c)
+  pub another : s .commits < maxCommits
+  pub in-commits : KeepsCommits s commits
+  pub in-links : KeepsLinks s links
+  pub holds : IsSet seen (Holds (history s) (held u))
+  pub operations : KeepsOperations c ranks values
+  pub masks : KeepsMasks n (c .viewAfter) fresh

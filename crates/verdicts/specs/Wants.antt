@@ -1,6 +1,4 @@
 -- The commits that clauses 3 to 8 want of a view, as sets (01, Clauses and levels). Assumes nothing.
-use Prim.Native.Nat.{ℕ}
-use Rattle.sets.specs.Set.{Set}
 use Rattle.relations.specs.Relation.{Plus}
 use Rattle.dependencies.specs.History.{SO}
 use Rattle.store.specs.Store.{CommitNumber, View, Store, Commit}

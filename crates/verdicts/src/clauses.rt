@@ -11,7 +11,7 @@ ghost use lib.ListN.{length};
 ghost use Rattle.sets.specs.Set.{insert};
 ghost use Rattle.dependencies.specs.History.{Holds};
 ghost use Rattle.store.specs.Store.{Store, View, Commit};
-ghost use Rattle.store.proofs.Sound.{IsView, SoundStore};
+ghost use Rattle.store.proofs.Sound.{SoundStore};
 ghost use Rattle.store.proofs.Links.{history, held};
 ghost use Rattle.state.specs.Keeps.{IsSet, KeepsKeys, KeepsCommits, KeepsLinks, KeepsOperations};
 ghost use Rattle.state.specs.Answers.{placeOf};

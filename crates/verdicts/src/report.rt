@@ -1,5 +1,6 @@
 // The first failure of each level: forty words, the clause (0 while the level has not failed), the record, the key and the version, ten of each in
 // report order.
+use crate::clauses;
 use crate::missing;
 use crate::table;
 use crate::Wanted;
@@ -11,7 +12,7 @@ ghost use lib.ListN.{length};
 ghost use Rattle.search.specs.Choose.{orElse};
 ghost use Rattle.store.specs.Store.{Store, View, Commit};
 ghost use Rattle.levels.specs.Level.{Level, clausesOf, Failure, failsClauses};
-ghost use Rattle.verdicts.specs.AtHand.{Judging};
+ghost use Rattle.verdicts.specs.AtHand.{Judging, BeforeCommit};
 ghost use Rattle.verdicts.specs.Verdicts.{levelAt, FailingClauses, writtenDown, NotesLevel, KeepsVerdicts};
 
 // What a search by a clause found for a level.
@@ -57,4 +58,20 @@ pub fn note(verdicts: &mut [u64], failing: u64, number: usize, w: Wanted, lost: 
         note_level(verdicts, level, failing, number, w, lost, own, seen, ranks, versions, keys, views, base, n);
         level = level + 1;
     }
+}
+
+// Judges a commit before anything of it is applied: the arrays keep the store, the view stands in `views` from `base` on and holds the commits `seen`,
+// `fresh` has the masks of the view after, and `number` is the record's.
+pub fn judge(verdicts: &mut [u64], number: usize, versions: &[u64], keys: &[u64], commits: &[u64], links: &[u64], views: &[u64], base: usize, fresh: &[u64], seen: u64, ranks: u64, n: usize)
+    requires { ⌜ (length (now verdicts) ≡ 40) × (n ≤ 16) × (length (now versions) ≡ 2048) × (length (now keys) ≡ 32) × (length (now commits) ≡ 192) × (length (now links) ≡ 160) × (base + n ≤ length (now views)) × (length (now fresh) ≡ 16) ⌝ }
+    ensures { λ _. ⌜ ((s : Store) (u : View) (c : Commit) (values : List ℕ) (fs : Level → Option Failure) → BeforeCommit s u c (now (versions .entry)) (now (keys .entry)) (now (commits .entry)) (now (links .entry)) (now (views .entry)) (now (fresh .entry)) values seen ranks base n → KeepsVerdicts fs (now (verdicts .entry)) → KeepsVerdicts (λ l. orElse (fs l) (failsClauses number s u c (clausesOf l))) (now (verdicts .exit))) ⌝ }
+{
+    let lost = views::masks::lost(fresh, views, base, n);
+    let own = views::missing::least_own(keys, fresh, ranks, n);
+    let w = clauses::wanted(keys, commits, links, seen, ranks, n);
+    let failing = clauses::failing(w, lost, own);
+    if failing == 0 {
+        return;
+    }
+    note(verdicts, failing, number, w, lost, own, seen, ranks, versions, keys, views, base, n);
 }
