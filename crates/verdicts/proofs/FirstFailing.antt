@@ -137,6 +137,7 @@ module _ (n : ℕ) (s : Store) (u : View) (c : Commit) (failing : Set) (h : Fail
     where
       later : (j : ℕ) → T (has (numbersOf ys) j) → clauseNumber y < j
       later = below-all-out (clauseNumber y) ys (and-left (below-all (clauseNumber y) ys) (rising ys) r)
+
       go : Dec (T (has failing (clauseNumber y))) → T (has (numbersOf ys) (clauseNumber x)) ⊎ (clauseNumber x ≡ clauseNumber y)
           → (T (has (numbersOf ys) (clauseNumber x)) → failsClauses n s u c ys ≡ mapSome (failure (nextNumber s) n x) (missingBy s u c x))
           → failsClauses n s u c (y ∷ ys) ≡ mapSome (failure (nextNumber s) n x) (missingBy s u c x)
@@ -159,13 +160,18 @@ module _ (n : ℕ) (s : Store) (u : View) (c : Commit) (failing : Set) (h : Fail
     where
       xs : List Clause
       xs = clausesOf (levelAt i)
+
       members : (j : ℕ) → T (has struck j) ↔ (T (has (numbersOf xs) j) × T (has failing j))
       members j = rw e (both-is (numbersOf xs) failing j)
+
       inside : T (has (numbersOf xs) (lowest struck)) × T (has failing (lowest struck))
       inside = members (lowest struck) .0 (has-lowest struck p l)
+
       x : Clause
       x = clause-of-number xs (lowest struck) (inside .0) .0
+
       q : clauseNumber x ≡ lowest struck
       q = clause-of-number xs (lowest struck) (inside .0) .1
+
       least : (j : ℕ) → T (has (numbersOf xs) j) → T (has failing j) → clauseNumber x ≤ j
       least j t f = rw q (lowest-least struck p l j (members j .1 (t, f)))

@@ -18,7 +18,7 @@ use Rattle.state.specs.Answers.{placeOf}
 use Rattle.verdicts.specs.declared.Wanted.{Wanted}
 use Rattle.verdicts.specs.Wants.{Wants}
 use Rattle.verdicts.specs.AtHand.{AtHand, Judging, BeforeCommit}
-use Rattle.verdicts.specs.Verdicts.{levelAt, FailingClauses, KeepsVerdict, KeepsVerdicts}
+use Rattle.verdicts.specs.Verdicts.{levelAt, FailingClauses, KeepsVerdicts}
 use Rattle.verdicts.proofs.FirstFailing.{none-failing}
 use Rattle.verdicts.proofs.Searches.{lost-is, own-is}
 use Rattle.verdicts.proofs.Noted.{orElse-end}

@@ -135,7 +135,7 @@ pub takes-failure : (n : ℕ) (s : Store) (u : View) (c : Commit) (failing : Set
     → NotesLevel i (failsClauses n s u c (clausesOf (levelAt i))) before after
 takes-failure n s u c failing h i l {struck} {clause} f {before} {after} room e q p w m found is = record {
   here = λ old k. rw (unfailed before i old (failsClauses n s u c (clausesOf (levelAt i))) k e, first .2, ← found x number, is, ← number) (this-level before i n (nextNumber s) x f room l e);
-  there = λ j b d old k. rw is (other-levels before i clause n f l j b d old k)
+  there = λ j b d old k. rw is (other-levels before i clause n f l j b d old k);
 }
   where
     first : (x : Clause) × (clauseNumber x ≡ lowest struck) × (failsClauses n s u c (clausesOf (levelAt i)) ≡ mapSome (failure (nextNumber s) n x) (missingBy s u c x))
@@ -161,7 +161,7 @@ pub noted-on : {news : ℕ → Option Failure} {l : ℕ} {before between after :
     → Noted news (l + 1) before after
 noted-on {news} {l} {before} {between} {after} h m n = record {
   done = λ i b old k. at i b old k (ℕ-discrete i l);
-  waits = λ i b c old k. n .there i b (λ e. omega arith) old (h .waits i b (omega arith) old k)
+  waits = λ i b c old k. n .there i b (λ e. omega arith) old (h .waits i b (omega arith) old k);
 }
   where
     at : (i : ℕ) → i < l + 1 → (old : Option Failure) → KeepsVerdict before i old → Dec (i ≡ l) → KeepsVerdict after i (orElse old (news i))

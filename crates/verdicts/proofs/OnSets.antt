@@ -77,7 +77,7 @@ wants-nothing s u c lacking h e = record {
   read = λ x. absurd (none x);
   written = λ x. absurd (none x);
   prefix = λ x. absurd (none x);
-  snapshot = λ x. absurd (none x)
+  snapshot = λ x. absurd (none x);
 }
   where
     zero : IsSet 0 (Lacking s u)

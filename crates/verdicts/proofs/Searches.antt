@@ -74,9 +74,9 @@ module _ (s : Store) (h : SoundStore s) (u : View) (v : IsView s u) where
 
   by-writer : {R : ℕ → ℕ → Type 0} (r : Relation) → Means r R → (m : Set) → (Lacks s u → IsSet m (LeadsToHeld s u R)) → missing s (byWriter s m) u ≡ missing s (leadingTo s u r) u
   by-writer r means m is = rules-agree (byWriter s m) (leadingTo s u r) (λ k i x.
-    let f = is (version s k i .writer, x) (version s k i .writer) in
-    let g = leading-rule r means k i in
-    (λ t. g .1 (f .0 t), λ t. f .1 (g .0 t)))
+      let f = is (version s k i .writer, x) (version s k i .writer) in
+      let g = leading-rule r means k i in
+      (λ t. g .1 (f .0 t), λ t. f .1 (g .0 t)))
 
   module _ (c : Commit) where
     pub before-missing : (m : Set) → (Lacks s u → IsSet m (LeadsToHeld s u (D.SO (history s)))) → missing s (byWriter s m) u ≡ missingBy s u c monotonicWrites
@@ -110,7 +110,7 @@ module _ (s : Store) (h : SoundStore s) (u : View) (v : IsView s u) where
             ↔ ((b : CommitNumber) × (b < nextNumber s) × (Holds (history s) (held u) b × (T (hasRead s b k i) ⊎ ((a : CommitNumber) × (a < nextNumber s) × (D.SO (history s) a b × T (hasRead s a k i))))))
         rule k i =
             any-is (nextNumber s) _ (λ b. and-is (holds s u b) _ (holds-means s h u b)
-              (or-is (hasRead s b k i) _ same (any-is (nextNumber s) _ (λ a. and-is (SO s a b) (hasRead s a k i) (so-means s h a b) same))))
+            (or-is (hasRead s b k i) _ same (any-is (nextNumber s) _ (λ a. and-is (SO s a b) (hasRead s a k i) (so-means s h a b) same))))
 
         below : (b : CommitNumber) → Holds (history s) (held u) b → b < nextNumber s
         below b x = h .writers b (x .0) (x .1) (x .3)

@@ -1,7 +1,7 @@
 // The clauses, tested on sets of commits: as a view holds all or none of a writer, it misses a version by one of certain commits exactly where one of
 // them is lacking, that is, where the view holds nothing of what it wrote.
-use crate::sources;
 use crate::Wanted;
+use crate::sources;
 ghost use mathlib.Core.Path.{_≡_};
 ghost use mathlib.Core.List.{List};
 ghost use mathlib.Core.Logic.{_↔_};
@@ -20,7 +20,14 @@ ghost use Rattle.verdicts.specs.AtHand.{AtHand};
 ghost use Rattle.verdicts.specs.Verdicts.{FailingClauses};
 
 // What the clauses want of the view that holds the commits `seen`; nothing where no commit is lacking.
-pub fn wanted(keys: &[u64], commits: &[u64], links: &[u64], seen: u64, ranks: u64, n: usize) -> Wanted
+pub fn wanted(
+    keys: &[u64],
+    commits: &[u64],
+    links: &[u64],
+    seen: u64,
+    ranks: u64,
+    n: usize,
+) -> Wanted
     requires { ⌜ (n ≤ 16) × (length (now keys) ≡ 32) × (length (now commits) ≡ 192) × (length (now links) ≡ 160) ⌝ }
     ensures { λ r. ⌜ ((s : Store) (u : View) (c : Commit) (values : List ℕ) → s .keys ≡ n → SoundStore s → KeepsKeys s (now (keys .entry)) → KeepsCommits s (now (commits .entry)) → KeepsLinks s (now (links .entry)) → KeepsOperations c ranks values → IsSet seen (Holds (history s) (held u)) → Wants s u c r) ⌝ }
 {
@@ -60,7 +67,11 @@ fn mark(set: u64, clause: usize, met: u64) -> u64
     requires { ⌜ clause < 64 ⌝ }
     ensures { λ r. ⌜ (met ≡ 0 → r ≡ set) × (¬ (met ≡ 0) → r ≡ insert clause set) ⌝ }
 {
-    if met == 0 { set } else { sets::insert(set, clause) }
+    if met == 0 {
+        set
+    } else {
+        sets::insert(set, clause)
+    }
 }
 
 // The numbers of the clauses that fail.

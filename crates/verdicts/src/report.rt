@@ -1,9 +1,9 @@
 // The first failure of each level: forty words, the clause (0 while the level has not failed), the record, the key and the version, ten of each in
 // report order.
+use crate::Wanted;
 use crate::clauses;
 use crate::missing;
 use crate::table;
-use crate::Wanted;
 ghost use mathlib.Core.Path.{_≡_};
 ghost use mathlib.Core.Option.{Option};
 ghost use mathlib.Core.List.{List};
@@ -32,7 +32,22 @@ fn write_down(verdicts: &mut [u64], level: usize, clause: usize, number: usize, 
 }
 
 // One level: "A commit fails a level at its lowest failing clause", and "A level keeps its first failure".
-fn note_level(verdicts: &mut [u64], level: usize, failing: u64, number: usize, w: Wanted, lost: state::Found, own: state::Found, seen: u64, ranks: u64, versions: &[u64], keys: &[u64], views: &[u64], base: usize, n: usize)
+fn note_level(
+    verdicts: &mut [u64],
+    level: usize,
+    failing: u64,
+    number: usize,
+    w: Wanted,
+    lost: state::Found,
+    own: state::Found,
+    seen: u64,
+    ranks: u64,
+    versions: &[u64],
+    keys: &[u64],
+    views: &[u64],
+    base: usize,
+    n: usize,
+)
     requires { ⌜ (length (now verdicts) ≡ 40) × (level < 10) × (n ≤ 16) × (length (now versions) ≡ 2048) × (length (now keys) ≡ 32) × (base + n ≤ length (now views)) ⌝ }
     ensures { λ _. ⌜ ((s : Store) (u : View) (c : Commit) (values : List ℕ) → Judging s u c w lost own seen ranks values (now (versions .entry)) (now (keys .entry)) (now (views .entry)) base n → FailingClauses s u c failing → NotesLevel level (failsClauses number s u c (clausesOf (levelAt level))) (now (verdicts .entry)) (now (verdicts .exit))) ⌝ }
 {
@@ -44,25 +59,79 @@ fn note_level(verdicts: &mut [u64], level: usize, failing: u64, number: usize, w
         return;
     }
     let clause = sets::lowest(struck);
-    let at = missing::missing_by(clause, w, lost, own, seen, ranks, versions, keys, views, base, n);
+    let at = missing::missing_by(
+        clause,
+        w,
+        lost,
+        own,
+        seen,
+        ranks,
+        versions,
+        keys,
+        views,
+        base,
+        n,
+    );
     write_down(verdicts, level, clause, number, at);
 }
 
 // All levels, after a commit, of the record of that number, that fails the clauses of the set.
-pub fn note(verdicts: &mut [u64], failing: u64, number: usize, w: Wanted, lost: state::Found, own: state::Found, seen: u64, ranks: u64, versions: &[u64], keys: &[u64], views: &[u64], base: usize, n: usize)
+pub fn note(
+    verdicts: &mut [u64],
+    failing: u64,
+    number: usize,
+    w: Wanted,
+    lost: state::Found,
+    own: state::Found,
+    seen: u64,
+    ranks: u64,
+    versions: &[u64],
+    keys: &[u64],
+    views: &[u64],
+    base: usize,
+    n: usize,
+)
     requires { ⌜ (length (now verdicts) ≡ 40) × (n ≤ 16) × (length (now versions) ≡ 2048) × (length (now keys) ≡ 32) × (base + n ≤ length (now views)) ⌝ }
     ensures { λ _. ⌜ ((s : Store) (u : View) (c : Commit) (values : List ℕ) (fs : Level → Option Failure) → Judging s u c w lost own seen ranks values (now (versions .entry)) (now (keys .entry)) (now (views .entry)) base n → FailingClauses s u c failing → KeepsVerdicts fs (now (verdicts .entry)) → KeepsVerdicts (λ l. orElse (fs l) (failsClauses number s u c (clausesOf l))) (now (verdicts .exit))) ⌝ }
 {
     let mut level: usize = 0;
     while level < 10 {
-        note_level(verdicts, level, failing, number, w, lost, own, seen, ranks, versions, keys, views, base, n);
+        note_level(
+            verdicts,
+            level,
+            failing,
+            number,
+            w,
+            lost,
+            own,
+            seen,
+            ranks,
+            versions,
+            keys,
+            views,
+            base,
+            n,
+        );
         level = level + 1;
     }
 }
 
 // Judges a commit before anything of it is applied: the arrays keep the store, the view stands in `views` from `base` on and holds the commits `seen`,
 // `fresh` has the masks of the view after, and `number` is the record's.
-pub fn judge(verdicts: &mut [u64], number: usize, versions: &[u64], keys: &[u64], commits: &[u64], links: &[u64], views: &[u64], base: usize, fresh: &[u64], seen: u64, ranks: u64, n: usize)
+pub fn judge(
+    verdicts: &mut [u64],
+    number: usize,
+    versions: &[u64],
+    keys: &[u64],
+    commits: &[u64],
+    links: &[u64],
+    views: &[u64],
+    base: usize,
+    fresh: &[u64],
+    seen: u64,
+    ranks: u64,
+    n: usize,
+)
     requires { ⌜ (length (now verdicts) ≡ 40) × (n ≤ 16) × (length (now versions) ≡ 2048) × (length (now keys) ≡ 32) × (length (now commits) ≡ 192) × (length (now links) ≡ 160) × (base + n ≤ length (now views)) × (length (now fresh) ≡ 16) ⌝ }
     ensures { λ _. ⌜ ((s : Store) (u : View) (c : Commit) (values : List ℕ) (fs : Level → Option Failure) → BeforeCommit s u c (now (versions .entry)) (now (keys .entry)) (now (commits .entry)) (now (links .entry)) (now (views .entry)) (now (fresh .entry)) values seen ranks base n → KeepsVerdicts fs (now (verdicts .entry)) → KeepsVerdicts (λ l. orElse (fs l) (failsClauses number s u c (clausesOf l))) (now (verdicts .exit))) ⌝ }
 {
@@ -73,5 +142,19 @@ pub fn judge(verdicts: &mut [u64], number: usize, versions: &[u64], keys: &[u64]
     if failing == 0 {
         return;
     }
-    note(verdicts, failing, number, w, lost, own, seen, ranks, versions, keys, views, base, n);
+    note(
+        verdicts,
+        failing,
+        number,
+        w,
+        lost,
+        own,
+        seen,
+        ranks,
+        versions,
+        keys,
+        views,
+        base,
+        n,
+    );
 }

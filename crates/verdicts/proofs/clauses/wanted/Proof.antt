@@ -40,12 +40,12 @@ returns-2 c =
     λ s u commit values e sound in-keys in-commits in-links operations held-is.
     record {
       lacking = rw (c .before .before .before .before .before .before .without .ensures)
-        (lacking-is s u (entry .args .seen) held-is (entry .args .keys .now) (entry .args .n) (c .before .before .before .before .before .before .before .writers .result) e sound in-keys (c .before .before .before .before .before .before .before .writers .ensures));
+          (lacking-is s u (entry .args .seen) held-is (entry .args .keys .now) (entry .args .n) (c .before .before .before .before .before .before .before .writers .result) e sound in-keys (c .before .before .before .before .before .before .before .writers .ensures));
       before = λ x. before-is s u (entry .args .seen) held-is (entry .args .commits .now) (c .before .before .before .before .gather .result) (entry .fits .seen .fits) in-commits (c .before .before .before .before .gather .ensures);
       read = λ x. read-is s u (entry .args .seen) held-is (entry .args .commits .now) (c .before .before .before .gather2 .result) (entry .fits .seen .fits) in-commits (c .before .before .before .gather2 .ensures);
       written = λ x. written-is s u (entry .args .seen) held-is commit (entry .args .keys .now) (entry .args .ranks) values (entry .args .n) (c .before .before .written .result) e sound in-keys operations (c .before .before .written .ensures);
       prefix = λ x. leading-is s u (entry .args .seen) held-is 0 (c .before .leading .result) (c .before .leading .ensures s in-links);
-      snapshot = λ x. leading-is s u (entry .args .seen) held-is 1 (c .leading2 .result) (c .leading2 .ensures s in-links)
+      snapshot = λ x. leading-is s u (entry .args .seen) held-is 1 (c .leading2 .result) (c .leading2 .ensures s in-links);
     }
 
 pub wanted-spec : {M : Type 1} → statement M

@@ -37,10 +37,10 @@ returns-2 : tie.Need-returns-2
 returns-2 c =
     λ s u commit values fs b k.
     let j =
-        judging b (c .before .before .before .before .before .before .wanted .result) (c .before .before .before .before .before .before .before .before .lost .result) (c .before .before .before .before .before .before .before .least-own .result)
-        (c .before .before .before .before .before .before .wanted .ensures s u commit values (b .arrays .number) (b .arrays .sound) (b .arrays .in-keys) (b .in-commits) (b .in-links) (b .operations) (b .holds))
-        (c .before .before .before .before .before .before .before .before .lost .ensures s u (commit .viewAfter) (b .arrays .number) (b .view) (b .arrays .in-masks) (b .masks))
-        (c .before .before .before .before .before .before .before .least-own .ensures s u commit values (b .arrays .number) (b .arrays .sound) (b .another) (b .arrays .in-keys) (b .operations) (b .masks)) in
+    judging b (c .before .before .before .before .before .before .wanted .result) (c .before .before .before .before .before .before .before .before .lost .result) (c .before .before .before .before .before .before .before .least-own .result)
+    (c .before .before .before .before .before .before .wanted .ensures s u commit values (b .arrays .number) (b .arrays .sound) (b .arrays .in-keys) (b .in-commits) (b .in-links) (b .operations) (b .holds))
+    (c .before .before .before .before .before .before .before .before .lost .ensures s u (commit .viewAfter) (b .arrays .number) (b .view) (b .arrays .in-masks) (b .masks))
+    (c .before .before .before .before .before .before .before .least-own .ensures s u commit values (b .arrays .number) (b .arrays .sound) (b .another) (b .arrays .in-keys) (b .operations) (b .masks)) in
     c .before .before .note .ensures s u commit values fs j (c .before .before .before .before .before .failing .ensures s u commit (j .at-hand)) k
 
 pub judge-spec : {M : Type 1} → statement M
