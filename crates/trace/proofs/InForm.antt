@@ -20,7 +20,7 @@ use Rattle.store.specs.Refusal.{Refusal, refuse}
 use Rattle.trace.specs.Result.{Result, refused, taken, onTaken}
 use Rattle.trace.specs.Format as Format
 use Rattle.trace.specs.Format.{misshapen, whole, recordAt, commitsWith, onRecord, eventsFrom, headerAt, withinLimits, decode}
-use Rattle.trace.specs.Meaning.{whyNumber, meaning, stepOf, headerOf, RecordsSay, WholeFile, FormSays}
+use Rattle.trace.specs.Meaning.{whyNumber, meaning, stepOf, headerOf, AllRecordsSay, WholeFile, FormSays}
 use Rattle.trace.specs.declared.records.Record.{Record}
 use Rattle.trace.specs.declared.records.Record.the-variants.{Shift, Commit, Refused}
 use Rattle.trace.specs.declared.form.Header.{Header}
@@ -146,8 +146,8 @@ decode-records s h t =
     (ap (λ (g : Format.Header). onTaken (eventsFrom s g (g .records) minBytes 1 0) (λ es. taken (record { keys = g .keys; clients = g .clients; events = es }))) (t .is-header))))))))
 
 -- and the answer about the records is one about the file
-pub form-says : {s : List ℕ} {h : Header} (r : Form) → RecordsSay s h r → Taken s h → FormSays s r
-unfolding RecordsSay FormSays onTaken
+pub form-says : {s : List ℕ} {h : Header} (r : Form) → AllRecordsSay s h r → Taken s h → FormSays s r
+unfolding AllRecordsSay FormSays onTaken
 form-says {s} {h} (Misshapen code n) e t = decode-records s h t ∙ rw e refl
 form-says {s} {h} (Whole g) said t =
     let (some-key, few-keys, some-client, few-clients) = withinLimits-is (headerOf h) .0 (true-T _ (t .limits)) in
