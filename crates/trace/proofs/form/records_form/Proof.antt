@@ -71,7 +71,7 @@ loop-again c =
 
 returns-2 : tie.Need-returns-2 Inv-loop μ-loop
 unfolding AllRecordsSay
-returns-2 c = c .before .before .loop .inv .3 .refusal _ (bytes-left _ _ _ _ _ _ (omega arith) (c .if1 .taken))
+returns-2 c = c .before .before .loop .inv .3 .refusal _ (bytes-left _ _ _ _ _ _ (omega arith) (λ e. omega arith))
 
 returns-3 : tie.Need-returns-3 Inv-loop μ-loop
 unfolding AllRecordsSay
