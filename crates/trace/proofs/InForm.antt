@@ -1,12 +1,12 @@
 -- The form of a file, one record at a time: what the records that are left come to, all records come to. Assumes nothing.
-use Prim.Native.Nat.{ℕ, zero, suc, _+_, _-_, _≤_, _<_}
+use Prim.Native.Nat.{ℕ, suc, _+_, _-_, _≤_, _<_}
 use mathlib.Core.Path.{_≡_, refl, sym, ap, _∙_, subst}
 use mathlib.Core.Bool.{true}
 use mathlib.Core.Logic.{_≢_}
 use mathlib.Core.List.{List, [], _∷_}
 use native.Mathlib.Omega.{arith}
 use native.Mathlib.Numerals.{add-one}
-use lib.Dec.{T, ltb, leb, eqb, ltb→lt, T-not}
+use lib.Dec.{ltb, leb, eqb, ltb→lt}
 use lib.ListN.{length}
 use borrow.Author.Tests.{le-leb, lt-leb, eq-eqb, ne-eqb}
 use Rattle.search.specs.Choose.{need}
@@ -15,12 +15,12 @@ use Rattle.search.proofs.Steps.{need-met, need-unmet}
 use Rattle.search.proofs.Tests.{true-T, lt-is, not-is}
 use Rattle.endian.specs.Endian.{Bytes, leAt}
 use Rattle.store.specs.Limits.{maxCommits, minBytes, maxBytes}
-use Rattle.store.specs.Store.{Event, shift, commit}
+use Rattle.store.specs.Store.{Event}
 use Rattle.store.specs.Refusal.{Refusal, refuse}
 use Rattle.trace.specs.Result.{Result, refused, taken, onTaken}
 use Rattle.trace.specs.Format as Format
-use Rattle.trace.specs.Format.{misshapen, whole, recordAt, commitsWith, onRecord, eventsFrom, headerAt, withinLimits, decode}
-use Rattle.trace.specs.Meaning.{whyNumber, meaning, stepOf, headerOf, RecordsSay, WholeFile, FormSays}
+use Rattle.trace.specs.Format.{whole, recordAt, commitsWith, onRecord, eventsFrom, headerAt, withinLimits, decode}
+use Rattle.trace.specs.Meaning.{meaning, stepOf, headerOf, AllRecordsSay, FormSays}
 use Rattle.trace.specs.declared.records.Record.{Record}
 use Rattle.trace.specs.declared.records.Record.the-variants.{Shift, Commit, Refused}
 use Rattle.trace.specs.declared.form.Header.{Header}
@@ -146,8 +146,8 @@ decode-records s h t =
     (ap (λ (g : Format.Header). onTaken (eventsFrom s g (g .records) minBytes 1 0) (λ es. taken (record { keys = g .keys; clients = g .clients; events = es }))) (t .is-header))))))))
 
 -- and the answer about the records is one about the file
-pub form-says : {s : List ℕ} {h : Header} (r : Form) → RecordsSay s h r → Taken s h → FormSays s r
-unfolding RecordsSay FormSays onTaken
+pub form-says : {s : List ℕ} {h : Header} (r : Form) → AllRecordsSay s h r → Taken s h → FormSays s r
+unfolding AllRecordsSay FormSays onTaken
 form-says {s} {h} (Misshapen code n) e t = decode-records s h t ∙ rw e refl
 form-says {s} {h} (Whole g) said t =
     let (some-key, few-keys, some-client, few-clients) = withinLimits-is (headerOf h) .0 (true-T _ (t .limits)) in

@@ -10,7 +10,7 @@ use Rattle.store.specs.Store.{Event, shift, commit}
 use Rattle.store.specs.Refusal.{refuse}
 use Rattle.trace.specs.Result.{refused, taken}
 use Rattle.trace.specs.Format as Format
-use Rattle.trace.specs.Format.{viewAt, operationsAt, misshapen, whole, eventsFrom, decode}
+use Rattle.trace.specs.Format.{viewAt, operationsAt, misshapen, whole, recordAt, eventsFrom, decode}
 use Rattle.trace.specs.declared.records.Why.{Why}
 use Rattle.trace.specs.declared.records.Why.the-variants.{Length, Kind, Client, Body}
 use Rattle.trace.specs.declared.records.Record.{Record}
@@ -35,6 +35,10 @@ meaning s keys (Commit client count session operations masks next) =
     whole (commit (record { client = client; session = session; operations = operationsAt s operations count; viewAfter = viewAt s masks keys })) next
 meaning s keys (Refused w) = misshapen (whyNumber w)
 
+-- the answer stands for what the file has at a place, whatever number of records its header gives
+abbrev pub RecordSays : List ℕ → ℕ → ℕ → ℕ → Record → Type 0
+RecordSays s at keys clients r = (n : ℕ) → meaning s keys r ≡ recordAt s (record { keys = keys; clients = clients; records = n }) at
+
 -- ---- all records
 
 -- what a record leads to where there were so many commits before it; code 8: "a 64th commit"
@@ -52,9 +56,9 @@ abbrev pub headerOf : Header → Format.Header
 headerOf h = record { keys = h .keys; clients = h .clients; records = h .records }
 
 -- what an answer says of the counted records: the refusal of one, or of the bytes left; or that all were read
-unfoldable pub RecordsSay : List ℕ → Header → Form → Type 0
-RecordsSay s h (Misshapen code n) = eventsFrom s (headerOf h) (h .records) minBytes 1 0 ≡ refused (refuse code n)
-RecordsSay s h (Whole g) = (g ≡ h) × (es : List Event) × (eventsFrom s (headerOf h) (h .records) minBytes 1 0 ≡ taken es)
+unfoldable pub AllRecordsSay : List ℕ → Header → Form → Type 0
+AllRecordsSay s h (Misshapen code n) = eventsFrom s (headerOf h) (h .records) minBytes 1 0 ≡ refused (refuse code n)
+AllRecordsSay s h (Whole g) = (g ≡ h) × (es : List Event) × (eventsFrom s (headerOf h) (h .records) minBytes 1 0 ≡ taken es)
 
 -- ---- the file
 

@@ -4,7 +4,8 @@ ghost use Prim.Native.Nat.{_≤_, _<_};
 ghost use lib.ListN.{length};
 ghost use Rattle.store.specs.Limits.{maxKeys, minBytes};
 ghost use Rattle.trace.specs.Format.{withinLimits};
-ghost use Rattle.trace.specs.Meaning.{stepOf, stopCode, headerOf, RecordsSay, FormSays};
+ghost use Rattle.trace.specs.Meaning.{stepOf, stopCode, headerOf, AllRecordsSay, FormSays};
+use crate::reader;
 use crate::records;
 use crate::records::Record;
 
@@ -67,17 +68,17 @@ fn stop_code(t: Step) -> usize
     }
 }
 
-// "form over all records in turn", then code 5: "bytes left after the counted records".
+// "form over all records in turn", each read whole or the file refused there, then code 5: "bytes left after the counted records".
 fn records_form(s: &[u8], h: Header) -> Form
     requires { ⌜ (minBytes ≤ length (now s)) × (h .keys ≤ maxKeys) × (h .records < 65536) ⌝ }
-    ensures { λ r. ⌜ RecordsSay (now (s .entry)) h r ⌝ }
+    ensures { λ r. ⌜ AllRecordsSay (now (s .entry)) h r ⌝ }
 {
     let mut at = store::Limits::HEADER;
     let mut index: usize = 1;
     let mut commits: usize = 0;
     let mut left = h.records;
     while 0 < left {
-        let step = step_of(records::record_at(s, at, h.keys, h.clients), commits);
+        let step = step_of(reader::record_from(s, at, h.keys, h.clients), commits);
         let Step::Next { at: next, commits: count } = step else {
             return Form::Misshapen {
                 code: stop_code(step),

@@ -4,8 +4,8 @@ ghost use mathlib.Core.Path.{_≡_};
 ghost use Prim.Native.Nat.{ℕ, _+_, _*_, _≤_, _<_};
 ghost use lib.ListN.{length};
 ghost use Rattle.store.specs.Limits.{maxKeys};
-ghost use Rattle.trace.specs.Format.{operationFits, operationsFit, shiftAt, commitOf, commitAt, recordAt};
-ghost use Rattle.trace.specs.Meaning.{whyNumber, meaning};
+ghost use Rattle.trace.specs.Format.{operationFits, operationsFit, shiftAt, commitOf, commitAt};
+ghost use Rattle.trace.specs.Meaning.{whyNumber, meaning, RecordSays};
 
 // Why a record is refused; whyNumber gives the code.
 pub enum Why {
@@ -155,7 +155,7 @@ fn commit_at(s: &[u8], at: usize, keys: usize, clients: usize) -> Record
 // The record at a place of the file.
 pub fn record_at(s: &[u8], at: usize, keys: usize, clients: usize) -> Record
     requires { ⌜ (at ≤ length (now s)) × (keys ≤ maxKeys) ⌝ }
-    ensures { λ r. ⌜ ((n : ℕ) → meaning (now (s .entry)) keys r ≡ recordAt (now (s .entry)) (record { keys = keys; clients = clients; records = n }) at) ⌝ }
+    ensures { λ r. ⌜ RecordSays (now (s .entry)) at keys clients r ⌝ }
 {
     if s.len() < at + 4 {
         return Record::Refused(Why::Length);

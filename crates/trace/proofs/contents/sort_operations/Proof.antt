@@ -1,13 +1,13 @@
 -- `trace::contents::sort_operations` meets its contract: the operations passed are sorted, and the others fit. Assumes nothing.
 use Rattle.store.specs.Limits.{maxKeys}
 use borrow.Author.Needs.{needs}
-use Prim.Native.Nat.{ℕ, _+_, _-_, _*_, _^_, _≤_, _<_}
-use mathlib.Core.Path.{_≡_, refl, ap, _∙_}
+use Prim.Native.Nat.{ℕ, _-_, _≤_}
+use mathlib.Core.Path.{_≡_, refl, _∙_}
 use mathlib.Core.Bool.{true}
 use native.Mathlib.Omega.{arith}
 use lib.ListN.{length, length-set}
 use Rattle.trace.specs.Format.{operationsFit}
-use Rattle.trace.proofs.Ranks.{Sorted, sorted-none, next-fits, sorted-more, sorted-turn}
+use Rattle.trace.proofs.Ranks.{Sorted, sorted-none, next-fits, sorted-turn}
 use Rattle.trace.proofs.contents.sort_operations.Statement.{statement}
 use Rattle.trace.proofs.contents.sort_operations.Tie as tie
 
