@@ -46,7 +46,7 @@ fn step_of(r: Record, commits: usize) -> Step
             masks: _,
             next,
         } => {
-            if store::Limits::COMMITS <= commits {
+            if store::Store::COMMITS <= commits {
                 return Step::Stop(8);
             }
             Step::Next {
@@ -73,7 +73,7 @@ fn records_form(s: &[u8], h: Header) -> Form
     requires { ⌜ (minBytes ≤ length (now s)) × (h .keys ≤ maxKeys) × (h .records < 65536) ⌝ }
     ensures { λ r. ⌜ AllRecordsSay (now (s .entry)) h r ⌝ }
 {
-    let mut at = store::Limits::HEADER;
+    let mut at = store::Store::HEADER;
     let mut index: usize = 1;
     let mut commits: usize = 0;
     let mut left = h.records;
@@ -106,13 +106,13 @@ fn within_limits(h: Header) -> bool
     if h.keys == 0 {
         return false;
     }
-    if store::Limits::KEYS < h.keys {
+    if store::Store::KEYS < h.keys {
         return false;
     }
     if h.clients == 0 {
         return false;
     }
-    h.clients <= store::Limits::CLIENTS
+    h.clients <= store::Store::CLIENTS
 }
 
 // The form of a file: nothing is asked of its bytes.
@@ -120,10 +120,10 @@ pub fn form_of(s: &[u8]) -> Form
     ensures { λ r. ⌜ FormSays (now (s .entry)) r ⌝ }
 {
     let len = s.len();
-    if len < store::Limits::HEADER {
+    if len < store::Store::HEADER {
         return Form::Misshapen { code: 1, record: 0 };
     }
-    if store::Limits::BYTES < len {
+    if store::Store::BYTES < len {
         return Form::Misshapen { code: 1, record: 0 };
     }
     if endian::u32_at(s, 0) as usize != len {
