@@ -1,0 +1,6 @@
+pub mod Tests
+pub mod Codes
+pub mod Looking
+pub mod Words
+pub mod Own
+pub mod Rows

@@ -1,0 +1,73 @@
+-- What the words in the arrays say: sets that have a number in common, and the writer in a head. Assumes nothing.
+use Prim.Native.Nat.{ℕ, _+_, _*_, _/_, _%_, _^_, _≤_, _<_, min}
+use mathlib.Core.Path.{_≡_, refl, sym, ap, _∙_}
+use mathlib.Core.Bool.{Bool, true, false, not, _&&_}
+use mathlib.Core.Logic.{_↔_, _≢_}
+use mathlib.Core.List.{List}
+use native.Mathlib.Omega.{arith}
+use lib.Dec.{T, eqb}
+use lib.Bits.{bitAnd, and-le-l}
+use lib.ListN.{getD}
+use borrow.Author.Tests.{eq-eqb, ne-eqb}
+use Rattle.search.proofs.Tests.{same, both, stable, and-is, not-is, eq-is, T?}
+use Rattle.sets.specs.Set.{Set, has, lowest}
+use Rattle.sets.proofs.Laws.{has-lowest}
+use Rattle.sets.proofs.Digits.{digit, digit-and, at-place}
+use Rattle.sets.proofs.Algebra.{empty-is}
+use Rattle.store.specs.Store.{Key, VersionNumber, View, Store, count, version}
+use Rattle.state.specs.Places.{headPlace, readersPlace, packed}
+use Rattle.views.specs.Words.{meets, writerIn}
+use Rattle.views.specs.Rules.{StoreAndView, byWriter, byReader}
+
+-- ---- what both sets hold
+
+pub has-both : (a b i : ℕ) → has (bitAnd a b) i ≡ (has a i && has b i)
+has-both a b i =
+    ap (λ (x : ℕ). eqb x 1) (digit-and a b i)
+    ∙ at-place (λ x y. eqb (min x y) 1 ≡ (eqb x 1 && eqb y 1)) refl refl refl refl a b i
+
+pub both-is : (a b i : ℕ) → T (has (bitAnd a b) i) ↔ (T (has a i) × T (has b i))
+both-is a b i = rw (has-both a b i) (and-is (has a i) (has b i) same same)
+
+-- `a & b != 0`
+pub meets-yes : (a b : ℕ) → bitAnd a b ≢ 0 → T (meets a b)
+unfolding meets
+meets-yes a b n = rw (ne-eqb (bitAnd a b) 0 n) tt
+
+pub meets-no : (a b : ℕ) → bitAnd a b ≡ 0 → ¬ T (meets a b)
+unfolding meets
+meets-no a b e t = rw (eq-eqb (bitAnd a b) 0 e) at t
+
+-- some number is in both words
+pub meets-is : (a b : ℕ) → a < 2 ^ 64 → T (meets a b) ↔ ((t : ℕ) × T (has a t) × T (has b t))
+unfolding meets
+meets-is a b l = (λ t. let n = not-is (eqb (bitAnd a b) 0) (eq-is _ 0) .0 t in common n, λ (t, x, y). meets-yes a b (λ e. empty-is (bitAnd a b) .0 e t (both-is a b t .1 (x, y))))
+  where
+    common : bitAnd a b ≢ 0 → (t : ℕ) × T (has a t) × T (has b t)
+    common n =
+        let c = bitAnd a b in
+        let x = both-is a b (lowest c) .0 (has-lowest c (omega arith) (omega (arith, and-le-l a b))) in
+        (lowest c, x .0, x .1)
+
+-- ---- the versions in the arrays
+
+module _ (s : Store) (u : View) (n : ℕ) (versions keys masks : List ℕ) (base : ℕ) (h : StoreAndView s u n versions keys masks base)
+    (k i : ℕ) (l : i < count s k) where
+  pub writer-in : writerIn (getD versions (headPlace k i) 0) ≡ version s k i .writer
+  unfolding writerIn
+  writer-in =
+      let w = version s k i .writer in
+      let x = version s k i .value in
+      let b : w ≤ s .commits = let m : w < _ = h .sound .writers w k i (l, refl) in omega arith in
+      let f : x < 2 ^ 32 = h .in-versions .value-fits k i l in
+      let e : getD versions (headPlace k i) 0 ≡ x + 2 ^ 32 * w = h .in-versions .heads k i l in
+      omega (arith, h .few)
+
+  pub written-by : (set : Set) {w : ℕ} → w ≡ writerIn (getD versions (headPlace k i) 0) → has set w ≡ byWriter s set k i
+  written-by set e = ap (has set) (e ∙ writer-in)
+
+  pub read-by : (set : Set) → bitAnd set (getD versions (readersPlace k i) 0) ≢ 0 → T (byReader s set k i)
+  read-by set n = rw (← h .in-versions .readers k i l) (meets-yes set _ n)
+
+  pub unread-by : (set : Set) → bitAnd set (getD versions (readersPlace k i) 0) ≡ 0 → ¬ T (byReader s set k i)
+  unread-by set e = rw (← h .in-versions .readers k i l) (meets-no set _ e)

@@ -1,0 +1,106 @@
+// The masks of a record, key by key.
+ghost use mathlib.Core.Path.{_≡_};
+ghost use mathlib.Core.Logic.{_↔_};
+ghost use Prim.Native.Nat.{ℕ, _+_, _<_, _≤_};
+ghost use lib.Dec.{T};
+ghost use lib.ListN.{length, getD};
+ghost use mathlib.Core.List.{List};
+ghost use Rattle.store.specs.Store.{View, Store, Commit};
+ghost use Rattle.store.specs.Missing.{missing};
+ghost use Rattle.store.specs.Refusal.{badMask, allOf, stray};
+ghost use Rattle.store.proofs.Sound.{IsView};
+ghost use Rattle.state.specs.Keeps.{KeepsKeys, KeepsMasks, KeepsOperations};
+ghost use Rattle.state.specs.Answers.{placeOf, keyOf};
+ghost use Rattle.views.specs.Rows.{RowAt, Kept};
+ghost use Rattle.views.specs.Strays.{strays};
+
+// Code 10: the least key whose mask lacks version 0 or holds a version that does not exist.
+pub fn bad_mask(fresh: &[u64], keys: &[u64], n: usize) -> state::FoundKey
+    requires { ⌜ (n ≤ 16) × (length (now fresh) ≡ 16) × (length (now keys) ≡ 32) ⌝ }
+    ensures { λ r. ⌜ ((s : Store) (u : View) → s .keys ≡ n → KeepsKeys s (now (keys .entry)) → KeepsMasks n u (now (fresh .entry)) → keyOf r ≡ badMask s u) ⌝ }
+{
+    let mut k: usize = 0;
+    while k < n {
+        let mask = fresh[k];
+        if !sets::has(mask, 0) {
+            return state::FoundKey::AtKey(state::Key(k));
+        }
+        if sets::without(mask, keys[k]) != 0 {
+            return state::FoundKey::AtKey(state::Key(k));
+        }
+        k = k + 1;
+    }
+    state::FoundKey::NoKey
+}
+
+// Code 12 and clause 1: the least version of the view at `base` that the masks lack.
+pub fn lost(fresh: &[u64], views: &[u64], base: usize, n: usize) -> state::Found
+    requires { ⌜ (n ≤ 16) × (length (now fresh) ≡ 16) × (base + n ≤ length (now views)) ⌝ }
+    ensures { λ r. ⌜ ((s : Store) (old u : View) → s .keys ≡ n → IsView s old → RowAt n (now (views .entry)) base old → KeepsMasks n u (now (fresh .entry)) → placeOf r ≡ missing s (allOf old) u) ⌝ }
+{
+    let mut k: usize = 0;
+    while k < n {
+        let left = sets::without(views[base + k], fresh[k]);
+        if left != 0 {
+            return state::Found::At(state::Key(k), state::VersionNumber(sets::lowest(left)));
+        }
+        k = k + 1;
+    }
+    state::Found::Nothing
+}
+
+// A mask that is not the view's, at a key without operation.
+fn strays(mask: u64, view: u64, ranks: u64, k: usize) -> bool
+    requires { ⌜ k < 16 ⌝ }
+    ensures { λ r. ⌜ r ≡ strays mask view ranks k ⌝ }
+{
+    if mask == view {
+        return false;
+    }
+    if sets::has(ranks, 2 * k) {
+        return false;
+    }
+    !sets::has(ranks, 2 * k + 1)
+}
+
+// Code 14: the least key without operation where the masks are not the view at `base`.
+pub fn stray(fresh: &[u64], views: &[u64], base: usize, ranks: u64, n: usize) -> state::FoundKey
+    requires { ⌜ (n ≤ 16) × (length (now fresh) ≡ 16) × (base + n ≤ length (now views)) ⌝ }
+    ensures { λ r. ⌜ ((s : Store) (old : View) (c : Commit) (values : List ℕ) → s .keys ≡ n → RowAt n (now (views .entry)) base old → KeepsMasks n (c .viewAfter) (now (fresh .entry)) → KeepsOperations c ranks values → keyOf r ≡ stray s old c) ⌝ }
+{
+    let mut k: usize = 0;
+    while k < n {
+        if strays(fresh[k], views[base + k], ranks, k) {
+            return state::FoundKey::AtKey(state::Key(k));
+        }
+        k = k + 1;
+    }
+    state::FoundKey::NoKey
+}
+
+// Whether the masks are those at `base`.
+pub fn same(fresh: &[u64], masks: &[u64], base: usize, n: usize) -> bool
+    requires { ⌜ (n ≤ length (now fresh)) × (base + n ≤ length (now masks)) ⌝ }
+    ensures { λ r. ⌜ T r ↔ ((k : ℕ) → k < n → getD (now (fresh .entry)) k 0 ≡ getD (now (masks .entry)) (base + k) 0) ⌝ }
+{
+    let mut k: usize = 0;
+    while k < n {
+        if fresh[k] != masks[base + k] {
+            return false;
+        }
+        k = k + 1;
+    }
+    true
+}
+
+// The masks become the view at `base`.
+pub fn keep(views: &mut [u64], base: usize, fresh: &[u64], n: usize)
+    requires { ⌜ (n ≤ length (now fresh)) × (base + n ≤ length (now views)) ⌝ }
+    ensures { λ _. ⌜ Kept (now (fresh .entry)) base n (now (views .entry)) (now (views .exit)) ⌝ }
+{
+    let mut k: usize = 0;
+    while k < n {
+        views[base + k] = fresh[k];
+        k = k + 1;
+    }
+}
