@@ -67,7 +67,7 @@ module _ {s : Store} {u : View} {c : Commit} {versions views : List ℕ} {base :
         g .view .exist k (newest u k) (has-highest (u k) (omega (arith, pow-pos 0)) (g .view .word k))
 
     -- its head, where the code looks for it
-    abbrev headSeen : ℕ
+    abbrev pub headSeen : ℕ
     headSeen = getD versions (headPlace k (highest (getD views (base + k) 0))) 0
 
     head-seen : headSeen ≡ packed (version s k (newest u k) .value) (version s k (newest u k) .writer)

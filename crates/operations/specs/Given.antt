@@ -7,7 +7,7 @@ use Rattle.sets.specs.Set.{Set}
 use Rattle.store.specs.Limits.{maxCommits}
 use Rattle.store.specs.Store.{Key, View, Store, nextNumber, Commit}
 use Rattle.store.proofs.Sound.{IsView, SoundStore, FitsCommit}
-use Rattle.state.specs.Keeps.{KeepsVersions, KeepsOperations}
+use Rattle.state.specs.Keeps.{KeepsVersions, KeepsKeys, KeepsOperations}
 
 -- the masks of the view stand in the array from `base` on: the row of client d starts at 16 * d
 abbrev pub RowAt : ℕ → List ℕ → ℕ → View → Type 0
@@ -23,4 +23,11 @@ pub record Given (s : Store) (u : View) (c : Commit) (versions views : List ℕ)
   pub room-left : nextNumber s ≤ maxCommits
   pub in-versions : KeepsVersions s versions
   pub row : RowAt n views base u
+  pub operations : KeepsOperations c ranks values
+
+-- the same of the keys and the writes alone
+pub record Writing (s : Store) (c : Commit) (keys : List ℕ) (values : List ℕ) (ranks : Set) (n : ℕ) : Type 0 where
+  pub keys-are : s .keys ≡ n
+  pub fits : FitsCommit (s .keys) c
+  pub in-keys : KeepsKeys s keys
   pub operations : KeepsOperations c ranks values

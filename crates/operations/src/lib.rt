@@ -9,8 +9,13 @@ ghost use Rattle.sets.specs.Set.{highest};
 ghost use Rattle.store.specs.Store.{View, Store, Commit};
 ghost use Rattle.store.specs.Refusal.{wrongAt, wrongRead};
 ghost use Rattle.state.specs.Places.{headPlace};
+ghost use Rattle.store.proofs.Updated.{Wrote};
+ghost use Rattle.growth.proofs.Links.{FromRead, FromWrite, ToLater};
+ghost use Rattle.growth.proofs.Ordered.{Ordered};
 ghost use Rattle.state.specs.Answers.{placeOf};
-ghost use Rattle.operations.specs.Given.{Given};
+ghost use Rattle.state.specs.Keeps.{IsSet, KeepsKeys, KeepsOperations};
+ghost use Rattle.operations.specs.Given.{Given, Writing};
+ghost use Rattle.operations.specs.PerKey.{readAt, laterAt, writtenAt};
 
 // The highest number of a mask, and 0 where it holds none.
 fn newest(mask: u64) -> usize
@@ -80,4 +85,87 @@ pub fn wrong_read(versions: &[u64], views: &[u64], base: usize, values: &[u64], 
         k = k + 1;
     }
     state::Found::Nothing
+}
+
+// The writer of the version that is read at key k; none where k is not read.
+fn source_at(versions: &[u64], views: &[u64], base: usize, ranks: u64, k: usize) -> u64
+    requires { ⌜ (length (now versions) ≡ 2048) × (length (now views) ≡ 256) × (base + k < 256) × (k < 16) ⌝ }
+    ensures { λ r. ⌜ ((s : Store) (u : View) (c : Commit) (values : List ℕ) (n : ℕ)
+        → Given s u c (now (versions .entry)) (now (views .entry)) base values ranks n → k < n → IsSet r (readAt s u c k)) ⌝ }
+{
+    if !sets::has(ranks, 2 * k) {
+        return 0;
+    }
+    sets::single(writer_of(head_seen(versions, views, base, k)))
+}
+
+// The writers of the versions that are read.
+pub fn sources(versions: &[u64], views: &[u64], base: usize, ranks: u64, n: usize) -> u64
+    requires { ⌜ (length (now versions) ≡ 2048) × (length (now views) ≡ 256) × (base + n ≤ 256) × (n ≤ 16) ⌝ }
+    ensures { λ r. ⌜ ((s : Store) (u : View) (c : Commit) (values : List ℕ)
+        → Given s u c (now (versions .entry)) (now (views .entry)) base values ranks n → IsSet r (FromRead s u c)) ⌝ }
+{
+    let mut found: u64 = 0;
+    let mut k: usize = 0;
+    while k < n {
+        found = sets::union(found, source_at(versions, views, base, ranks, k));
+        k = k + 1;
+    }
+    found
+}
+
+// The writers of later versions of key k than the one that is read; none where k is not read. As writers rise with the version
+// number, these are the writers of k that are above the writer of the version that is read.
+fn later_at(versions: &[u64], keys: &[u64], views: &[u64], base: usize, ranks: u64, k: usize) -> u64
+    requires { ⌜ (length (now versions) ≡ 2048) × (length (now keys) ≡ 32) × (length (now views) ≡ 256) × (base + k < 256) × (k < 16) ⌝ }
+    ensures { λ r. ⌜ ((s : Store) (u : View) (c : Commit) (values : List ℕ) (n : ℕ)
+        → Given s u c (now (versions .entry)) (now (views .entry)) base values ranks n → KeepsKeys s (now (keys .entry)) → Ordered s → k < n
+        → IsSet r (laterAt s u c k)) ⌝ }
+{
+    if !sets::has(ranks, 2 * k) {
+        return 0;
+    }
+    let writer = writer_of(head_seen(versions, views, base, k));
+    sets::without(keys[16 + k], sets::below(writer + 1))
+}
+
+// The writers of later versions of the keys that are read.
+pub fn overwriters(versions: &[u64], keys: &[u64], views: &[u64], base: usize, ranks: u64, n: usize) -> u64
+    requires { ⌜ (length (now versions) ≡ 2048) × (length (now keys) ≡ 32) × (length (now views) ≡ 256) × (base + n ≤ 256) × (n ≤ 16) ⌝ }
+    ensures { λ r. ⌜ ((s : Store) (u : View) (c : Commit) (values : List ℕ)
+        → Given s u c (now (versions .entry)) (now (views .entry)) base values ranks n → KeepsKeys s (now (keys .entry)) → Ordered s
+        → IsSet r (ToLater s u c)) ⌝ }
+{
+    let mut found: u64 = 0;
+    let mut k: usize = 0;
+    while k < n {
+        found = sets::union(found, later_at(versions, keys, views, base, ranks, k));
+        k = k + 1;
+    }
+    found
+}
+
+// The writers of key k; none where k is not written.
+fn earlier_at(keys: &[u64], ranks: u64, k: usize) -> u64
+    requires { ⌜ (length (now keys) ≡ 32) × (k < 16) ⌝ }
+    ensures { λ r. ⌜ ((s : Store) (c : Commit) (values : List ℕ) (n : ℕ) → Writing s c (now (keys .entry)) values ranks n → k < n → IsSet r (writtenAt s c k)) ⌝ }
+{
+    if !sets::has(ranks, 2 * k + 1) {
+        return 0;
+    }
+    keys[16 + k]
+}
+
+// The writers of the keys that are written.
+pub fn earlier(keys: &[u64], ranks: u64, n: usize) -> u64
+    requires { ⌜ (length (now keys) ≡ 32) × (n ≤ 16) ⌝ }
+    ensures { λ r. ⌜ ((s : Store) (c : Commit) (values : List ℕ) → Writing s c (now (keys .entry)) values ranks n → IsSet r (FromWrite s c)) ⌝ }
+{
+    let mut found: u64 = 0;
+    let mut k: usize = 0;
+    while k < n {
+        found = sets::union(found, earlier_at(keys, ranks, k));
+        k = k + 1;
+    }
+    found
 }
