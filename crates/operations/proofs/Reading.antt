@@ -39,6 +39,10 @@ low-half low high l = omega arith
 pub high-half : (low high : ℕ) → low < 2 ^ 32 → packed low high / 2 ^ 32 ≡ high
 high-half low high l = omega arith
 
+-- me << 32
+pub high-shifted : (high : ℕ) → high < 64 → high * 2 ^ 32 % 2 ^ 64 ≡ high * 2 ^ 32
+high-shifted high l = omega arith
+
 -- ---- operations by their ranks
 
 pub some-when : {A : Type 0} (b : Bool) (a : A) → isSome (when b a) ≡ b

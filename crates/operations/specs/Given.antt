@@ -2,10 +2,12 @@
 use Prim.Native.Nat.{ℕ, _+_, _≤_, _<_}
 use mathlib.Core.Path.{_≡_}
 use mathlib.Core.List.{List}
+use lib.Dec.{T}
 use lib.ListN.{getD}
 use Rattle.sets.specs.Set.{Set}
 use Rattle.store.specs.Limits.{maxCommits}
-use Rattle.store.specs.Store.{Key, View, Store, nextNumber, Commit}
+use Rattle.store.specs.Store.{Key, View, Store, count, nextNumber, Commit}
+use Rattle.store.specs.Update.{writes}
 use Rattle.store.proofs.Sound.{IsView, SoundStore, FitsCommit}
 use Rattle.state.specs.Keeps.{KeepsVersions, KeepsKeys, KeepsOperations}
 
@@ -29,5 +31,15 @@ pub record Given (s : Store) (u : View) (c : Commit) (versions views : List ℕ)
 pub record Writing (s : Store) (c : Commit) (keys : List ℕ) (values : List ℕ) (ranks : Set) (n : ℕ) : Type 0 where
   pub keys-are : s .keys ≡ n
   pub fits : FitsCommit (s .keys) c
+  pub in-keys : KeepsKeys s keys
+  pub operations : KeepsOperations c ranks values
+
+-- a store with room for a version more of each key, as the arrays have it, and the writes of a commit
+pub record Appending (s : Store) (c : Commit) (versions keys values : List ℕ) (ranks : Set) (n : ℕ) : Type 0 where
+  pub keys-are : s .keys ≡ n
+  pub only-keys : (k i : ℕ) → i < count s k → k < s .keys
+  pub write-keys : (k : Key) → T (writes c k) → k < s .keys
+  pub room-left : (k : Key) → count s k ≤ maxCommits
+  pub in-versions : KeepsVersions s versions
   pub in-keys : KeepsKeys s keys
   pub operations : KeepsOperations c ranks values
