@@ -1,7 +1,6 @@
 // The run of a trace, record by record, on the arrays that keep the store: what each record is refused for (codes 9 to 14), what it
 // changes, and what the ten levels say of it.
-pub mod sight; // sight.rt: the masks of a record (codes 10 and 11)
-pub mod shifts; // shifts.rt: one view shift (codes 10 to 12)
+pub mod commits; // commits.rt: a commit made on the arrays
 
 use state::{Key, VersionNumber};
 
