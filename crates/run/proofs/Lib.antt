@@ -1,2 +1,4 @@
 pub mod Along
 pub mod Replaced
+pub mod Operating
+pub mod LedBy

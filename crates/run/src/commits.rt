@@ -2,7 +2,9 @@
 ghost use Prim.Native.Nat.{ℕ, _+_, _*_, _≤_, _<_};
 ghost use mathlib.Core.Path.{_≡_};
 ghost use mathlib.Core.List.{List};
-ghost use lib.ListN.{length};
+ghost use lib.Dec.{eqb};
+ghost use lib.ListN.{length, getD};
+ghost use Rattle.search.specs.Choose.{choose};
 ghost use Rattle.store.specs.Store.{Store, View, Commit, nextNumber};
 ghost use Rattle.store.specs.Update.{update};
 ghost use Rattle.state.specs.Keeps.{KeepsVersions, KeepsKeys, KeepsSessions, KeepsCommits, KeepsLinks};
@@ -14,6 +16,17 @@ pub struct Led {
     pub sources: u64,
     pub earlier: u64,
     pub over: u64,
+}
+
+// The earlier commits of a client, for a commit with operations; none for one without.
+fn before_of(sessions: &[u64], client: usize, ranks: u64) -> u64
+    requires { ⌜ (client < 16) × (length (now sessions) ≡ 48) ⌝ }
+    ensures { λ r. ⌜ r ≡ choose (eqb ranks 0) 0 (getD (now (sessions .entry)) client 0) ⌝ }
+{
+    if ranks == 0 {
+        return 0;
+    }
+    sessions[client]
 }
 
 // What leads to a commit of a client with the given operations, and what it leads to.
@@ -28,10 +41,7 @@ fn led_by(versions: &[u64], keys: &[u64], views: &[u64], sessions: &[u64], clien
     }
 {
     let base = 16 * client;
-    let mut before = 0u64;
-    if ranks != 0 {
-        before = sessions[client];
-    }
+    let before = before_of(sessions, client, ranks);
     let sources = operations::sources(versions, views, base, ranks, n);
     let over = operations::overwriters(versions, keys, views, base, ranks, n);
     let earlier = operations::earlier(keys, ranks, n);
