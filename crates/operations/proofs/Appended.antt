@@ -1,26 +1,25 @@
 -- A version appended in the arrays is appended in the store; and the reads and then the writes of a commit are its update. Assumes nothing.
 use Prim.Native.Nat.{ℕ, suc, _+_, _-_, _*_, _%_, _^_, _≤_, _<_}
-use mathlib.Core.Path.{_≡_, refl, sym, ap, _∙_, subst}
+use mathlib.Core.Path.{_≡_, sym, ap, _∙_, subst}
 use mathlib.Core.Bool.{Bool, true, false}
-use mathlib.Core.Logic.{_⊎_, inl, inr, _↔_, _≢_}
-use mathlib.Core.Option.{Option}
+use mathlib.Core.Logic.{_⊎_, inl, inr, _≢_}
 use mathlib.Core.List.{List, [], _∷_, _++_}
 use native.Mathlib.Omega.{arith}
-use native.Mathlib.Decide.{ℕ-discrete, decLt}
+use native.Mathlib.Decide.{decLt}
 use native.Mathlib.Nat.{mod-eq-of-lt}
 use lib.Dec.{T}
 use lib.Bits.{bitOr, or-shifted-r}
-use lib.Pow.{pow-pos, pow-lt}
+use lib.Pow.{pow-pos}
 use lib.ListN.{length, getD, set, length-set, length-append, List·getD-append}
 use lib.Seq.{getD-set-same, getD-set-other, getD-append-seam}
 use Rattle.search.specs.Choose.{choose, when}
 use Rattle.search.proofs.Tests.{T?}
-use Rattle.sets.specs.Set.{Set, has, insert, single, below, union, highest}
+use Rattle.sets.specs.Set.{Set, has, single, below, union, highest}
 use Rattle.sets.proofs.Laws.{has-highest, single-only}
 use Rattle.sets.proofs.Algebra.{insert-below, single-word}
 use Rattle.store.specs.Limits.{maxKeys, maxCommits}
 use Rattle.store.specs.Store.{Key, VersionNumber, CommitNumber, Value, Version, openingVersion, View, Store, count, version, nextNumber, read, write, Commit}
-use Rattle.store.specs.Update.{valueOf, writes, newest, noteRead, append, atNumber, update}
+use Rattle.store.specs.Update.{valueOf, writes, newest, append, update}
 use Rattle.store.proofs.Updated.{note-length, append-none}
 use Rattle.state.specs.Places.{perKey, headPlace, readersPlace, fullPlace, writersPlace, packed}
 use Rattle.state.specs.Keeps.{IsSet, KeepsVersions, KeepsKeys}
@@ -90,15 +89,16 @@ module _ (before : List ℕ) (k : Key) (x : Value) (t : CommitNumber) (vs : List
   key-grown = record {
     room = length-set mid _ _ ∙ length-set before _ _ ∙ r .room;
     full = getD-set-other mid (writersPlace k) (fullPlace k) _ 0 (λ q. omega arith) ∙ getD-set-same before (fullPlace k) _ 0 (omega (arith, r .room))
-      ∙ ap (λ (m : ℕ). union m (single (length vs))) (r .full) ∙ union-below (length vs) ∙ ap below (sym (longer vs (new x t)));
+        ∙ ap (λ (m : ℕ). union m (single (length vs))) (r .full) ∙ union-below (length vs) ∙ ap below (sym (longer vs (new x t)));
     writers = subst (λ (m : ℕ). IsSet m (λ a. (i : ℕ) × WroteIn (vs ++ (new x t ∷ [])) a i))
-      (sym (getD-set-same mid (writersPlace k) _ 0 (omega (arith, length-set before (fullPlace k) (union (getD before (fullPlace k) 0) (single (length vs))), r .room))))
-      (isSet-as _ (λ a. (into a, λ (i, w). out a i w (decLt i (length vs)))) (isSet-insert t (getD before (writersPlace k) 0) (r .writers)));
+        (sym (getD-set-same mid (writersPlace k) _ 0 (omega (arith, length-set before (fullPlace k) (union (getD before (fullPlace k) 0) (single (length vs))), r .room))))
+        (isSet-as _ (λ a. (into a, λ (i, w). out a i w (decLt i (length vs)))) (isSet-insert t (getD before (writersPlace k) 0) (r .writers)));
   }
     where
       into : (a : ℕ) → (a ≡ t) ⊎ ((i : ℕ) × WroteIn vs a i) → (i : ℕ) × WroteIn (vs ++ (new x t ∷ [])) a i
       into a (inl e) = (length vs, (omega (arith, longer vs (new x t)), ap (λ (v : Version). v .writer) (getD-append-seam vs (new x t) [] openingVersion) ∙ sym e))
       into a (inr (i, (m, e))) = (i, (omega (arith, longer vs (new x t)), ap (λ (v : Version). v .writer) (List·getD-append vs (new x t ∷ []) openingVersion i m) ∙ e))
+
       out : (a i : ℕ) → WroteIn (vs ++ (new x t ∷ [])) a i → Dec (i < length vs) → (a ≡ t) ⊎ ((i : ℕ) × WroteIn vs a i)
       out a i (m, e) (yes l) = inr (i, (l, sym (ap (λ (v : Version). v .writer) (List·getD-append vs (new x t ∷ []) openingVersion i l)) ∙ e))
       out a i (m, e) (no n) =
@@ -119,7 +119,7 @@ module _ (before : List ℕ) (k : Key) (x : Value) (t : CommitNumber) (b : k < m
   unfolding choose
   appended-other i l true q n m vs r =
       row-other (set before (headPlace k i) (packed x t)) (readersPlace k i) 0 q (λ j o. (λ e. omega arith, λ e. n (omega arith)))
-        (row-other before (headPlace k i) (packed x t) q (λ j o. (λ e. n (omega arith), λ e. omega arith)) r)
+      (row-other before (headPlace k i) (packed x t) q (λ j o. (λ e. n (omega arith), λ e. omega arith)) r)
   appended-other i l false q n m vs r = r
 
   grown-key : (vs : List Version) (w : Bool) → KeyRow before k vs → KeyRow (choose w (keyGrown before k (single (length vs)) t) before) k (append (when w x) t vs)
@@ -131,7 +131,7 @@ module _ (before : List ℕ) (k : Key) (x : Value) (t : CommitNumber) (b : k < m
   unfolding choose
   grown-other bit true q n m vs r =
       key-other (set before (fullPlace k) (union (getD before (fullPlace k) 0) bit)) (writersPlace k) _ q (λ e. omega arith) (λ e. n (omega arith))
-        (key-other before (fullPlace k) _ q n (λ e. omega arith) r)
+      (key-other before (fullPlace k) _ q n (λ e. omega arith) r)
   grown-other bit false q n m vs r = r
 
 -- ---- the whole loop
@@ -158,23 +158,27 @@ module _ {s : Store} {c : Commit} {versions keys values : List ℕ} {ranks n : �
       → WritesPassed s c t n k vs ks → WritesPassed s c t n (k + 1) vs′ ks′
   write-appended small k vs ks {vs′} {ks′} l e d p = record {
     in-versions = subst (λ (a : List ℕ). Passed Row (s .versions) (writesAppended s c t .versions) n (k + 1) a) (sym (rw (number, packed-or x t f) at e))
-      (pass-key Row (s .versions) (writesAppended s c t .versions) n k vs _ l (p .in-versions)
+        (pass-key Row (s .versions) (writesAppended s c t .versions) n k vs _ l (p .in-versions)
         (λ q m o. appended-other vs k x t (omega arith) (count s k) (omega (arith, g .room-left k)) (has ranks (2 * k + 1)) q m (omega arith))
         (λ r. rw (g .operations .writes k) (appended-row vs k x t (omega arith) (s .versions k) (g .room-left k) f (has ranks (2 * k + 1)) r)));
     in-keys = subst (λ (a : List ℕ). Passed KeyRow (s .versions) (writesAppended s c t .versions) n (k + 1) a) (sym (rw bit at d))
-      (pass-key KeyRow (s .versions) (writesAppended s c t .versions) n k ks _ l (p .in-keys)
+        (pass-key KeyRow (s .versions) (writesAppended s c t .versions) n k ks _ l (p .in-keys)
         (λ q m o. grown-other ks k x t (omega arith) (single (count s k)) (has ranks (2 * k + 1)) q m (omega arith))
         (λ r. rw (g .operations .writes k) (grown-key ks k x t (omega arith) (s .versions k) (has ranks (2 * k + 1)) r)));
   }
     where
       x : ℕ
       x = getD values (2 * k + 1) 0
+
       f : x < 2 ^ 32
       f = g .operations .value-fits (2 * k + 1)
+
       here : KeyRow ks k (s .versions k)
       here = p .in-keys .left k (omega arith) l
+
       bit : freeBit ks k ≡ single (count s k)
       bit = free-bit ks k (count s k) (g .room-left k) (here .full)
+
       number : free ks k ≡ count s k
       number = free-number ks k (count s k) (g .room-left k) (here .full)
 
@@ -188,13 +192,14 @@ module _ {s : Store} {c : Commit} {versions keys values : List ℕ} {ranks n : �
 
   pub writes-appended : (k : ℕ) (vs ks : List ℕ) → n ≤ k → length vs ≡ 2 * (perKey * maxKeys) → length ks ≡ 2 * maxKeys → WritesPassed s c t n k vs ks
       → KeepsVersions (writesAppended s c t) vs × KeepsKeys (writesAppended s c t) ks
-  writes-appended k vs ks l room room′ p =
-      ( of-rows (writesAppended s c t) vs n room only-old (λ q m. p .in-versions .done q (omega arith))
-      , record {
-          room = room′;
-          full = λ q m. p .in-keys .done q (omega (arith, g .keys-are)) .full;
-          writers = λ q m. p .in-keys .done q (omega (arith, g .keys-are)) .writers;
-        } )
+  writes-appended k vs ks l room room′ p = (
+    of-rows (writesAppended s c t) vs n room only-old (λ q m. p .in-versions .done q (omega arith)),
+    record {
+      room = room′;
+      full = λ q m. p .in-keys .done q (omega (arith, g .keys-are)) .full;
+      writers = λ q m. p .in-keys .done q (omega (arith, g .keys-are)) .writers;
+    },
+  )
 
 -- ---- the whole commit
 
@@ -221,6 +226,7 @@ module _ {s : Store} {u : View} {c : Commit} {versions views : List ℕ} {base :
       → KeepsVersions (update s u c) vs × KeepsKeys (update s u c) ks
   unfolding update
   performed e vs ks h =
-      let (v, k) : KeepsVersions (writesAppended (readsNoted s u c (nextNumber s)) c (nextNumber s)) vs × KeepsKeys (writesAppended (readsNoted s u c (nextNumber s)) c (nextNumber s)) ks = rw e at h in
-      ( record { room = v .room; heads = v .heads; readers = v .readers; value-fits = v .value-fits }
-      , record { room = k .room; full = k .full; writers = k .writers } )
+      let (v, k) : KeepsVersions (writesAppended (readsNoted s u c (nextNumber s)) c (nextNumber s)) vs × KeepsKeys (writesAppended (readsNoted s u c (nextNumber s)) c (nextNumber s)) ks = rw e at h in (
+        record { room = v .room; heads = v .heads; readers = v .readers; value-fits = v .value-fits },
+        record { room = k .room; full = k .full; writers = k .writers },
+      )

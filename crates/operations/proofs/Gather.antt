@@ -1,7 +1,7 @@
 -- A set that is gathered key by key: the loop joins to it what each key adds. Assumes nothing.
 use Prim.Native.Nat.{ℕ, _+_, _<_}
 use mathlib.Core.Path.{_≡_, sym, subst}
-use mathlib.Core.Logic.{_⊎_, inl, inr, _↔_}
+use mathlib.Core.Logic.{_⊎_, inl, inr}
 use native.Mathlib.Omega.{arith}
 use native.Mathlib.Decide.{ℕ-discrete}
 use Rattle.sets.specs.Set.{Set, union}
@@ -22,6 +22,7 @@ module _ (P : ℕ → ℕ → Type 0) where
       into : (t : ℕ) → UpTo P k t ⊎ P k t → UpTo P (k + 1) t
       into t (inl (q, l, x)) = (q, omega arith, x)
       into t (inr x) = (k, omega arith, x)
+
       out : (t : ℕ) → UpTo P (k + 1) t → UpTo P k t ⊎ P k t
       out t (q, l, x) = go (ℕ-discrete q k)
         where

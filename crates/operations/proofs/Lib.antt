@@ -4,3 +4,4 @@ pub mod PerKey
 pub mod Rows
 pub mod Noted
 pub mod Appended
+pub mod Kept

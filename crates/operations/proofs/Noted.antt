@@ -1,9 +1,8 @@
 -- A read noted in the arrays is noted in the store. Assumes nothing.
-use Prim.Native.Nat.{ℕ, suc, _+_, _*_, _^_, _≤_, _<_}
-use mathlib.Core.Path.{_≡_, refl, sym, ap, _∙_, subst}
+use Prim.Native.Nat.{ℕ, _+_, _*_, _≤_, _<_}
+use mathlib.Core.Path.{_≡_, sym, ap, _∙_, subst}
 use mathlib.Core.Bool.{Bool, true, false}
 use mathlib.Core.Logic.{_≢_}
-use mathlib.Core.Option.{Option}
 use mathlib.Core.List.{List}
 use native.Mathlib.Omega.{arith}
 use native.Mathlib.Decide.{ℕ-discrete}
@@ -12,10 +11,10 @@ use lib.Seq.{getD-set-same, getD-set-other}
 use Rattle.search.specs.Choose.{choose, when}
 use Rattle.sets.specs.Set.{has, insert, below, highest}
 use Rattle.store.specs.Limits.{maxKeys}
-use Rattle.store.specs.Store.{Key, VersionNumber, CommitNumber, Value, Version, openingVersion, View, Store, count, version, nextNumber, read, Commit}
+use Rattle.store.specs.Store.{Key, VersionNumber, CommitNumber, Value, Version, openingVersion, View, Store, count, version, read, Commit}
 use Rattle.store.specs.Update.{valueOf, newest, readBy, noteRead}
 use Rattle.store.proofs.Updated.{Wrote, note-length, note-writer}
-use Rattle.state.specs.Places.{perKey, headPlace, readersPlace, packed}
+use Rattle.state.specs.Places.{perKey, headPlace, readersPlace}
 use Rattle.state.specs.Keeps.{KeepsVersions, KeepsKeys}
 use Rattle.state.proofs.Sets.{isSet-as}
 use Rattle.operations.specs.Given.{Given}
@@ -77,7 +76,7 @@ module _ {s : Store} {u : View} {c : Commit} {versions views : List ℕ} {base :
   pub no-reads : ReadsPassed s u c t n 0 versions
   no-reads =
       pass-none Row (s .versions) (readsNoted s u c t .versions) n versions
-        (λ q l. rows-of (g .in-versions) (λ k. omega (arith, g .sound .few k, g .room-left)) q)
+      (λ q l. rows-of (g .in-versions) (λ k. omega (arith, g .sound .few k, g .room-left)) q)
 
   pub read-noted : n ≤ maxKeys → (k : ℕ) (before : List ℕ) {after : List ℕ} → k < n
       → after ≡ choose (has ranks (2 * k)) (readerAdded before (readersPlace k (highest (getD views (base + k) 0))) t) before
@@ -86,15 +85,15 @@ module _ {s : Store} {u : View} {c : Commit} {versions views : List ℕ} {base :
       let x : newest u k < count s k = seen-exists g k l in
       let y : count s k ≤ perKey = omega (arith, g .sound .few k, g .room-left) in
       subst (λ (a : List ℕ). ReadsPassed s u c t n (k + 1) a) (sym (rw (g .row k l) at e))
-        (pass-key Row (s .versions) (readsNoted s u c t .versions) n k before _ l p
-          (λ q m o vs r. noted-other before k (newest u k) t (omega arith) (omega arith) (has ranks (2 * k)) q m (omega arith) vs r)
-          (λ r. rw (g .operations .reads k) (noted-row before k (newest u k) t (s .versions k) (omega arith) x (has ranks (2 * k)) _ r)))
+      (pass-key Row (s .versions) (readsNoted s u c t .versions) n k before _ l p
+      (λ q m o vs r. noted-other before k (newest u k) t (omega arith) (omega arith) (has ranks (2 * k)) q m (omega arith) vs r)
+      (λ r. rw (g .operations .reads k) (noted-row before k (newest u k) t (s .versions k) (omega arith) x (has ranks (2 * k)) _ r)))
 
   pub reads-noted : (k : ℕ) (a : List ℕ) → n ≤ k → length a ≡ 2 * (perKey * maxKeys) → ReadsPassed s u c t n k a → KeepsVersions (readsNoted s u c t) a
   reads-noted k a l room p =
       of-rows (readsNoted s u c t) a n room
-        (λ q i m. omega (arith, g .sound .only-keys q i (rw (note-length (valueOf read (c .operations) q) (newest u q) t (s .versions q)) at m), g .keys-are))
-        (λ q m. p .done q (omega arith))
+      (λ q i m. omega (arith, g .sound .only-keys q i (rw (note-length (valueOf read (c .operations) q) (newest u q) t (s .versions q)) at m), g .keys-are))
+      (λ q m. p .done q (omega arith))
 
   -- versions keep their writers
   pub keys-noted : {keys : List ℕ} → KeepsKeys s keys → KeepsKeys (readsNoted s u c t) keys
@@ -106,9 +105,12 @@ module _ {s : Store} {u : View} {c : Commit} {versions views : List ℕ} {base :
     where
       noted-length : (k : Key) → count (readsNoted s u c t) k ≡ count s k
       noted-length k = note-length (valueOf read (c .operations) k) (newest u k) t (s .versions k)
+
       same-writer : (k i : ℕ) → i < count s k → version (readsNoted s u c t) k i .writer ≡ version s k i .writer
       same-writer k i l = note-writer (valueOf read (c .operations) k) (newest u k) t (s .versions k) i l
+
       into : (a k i : ℕ) → Wrote s a k i → Wrote (readsNoted s u c t) a k i
       into a k i (l, e) = (rw (noted-length k) l, same-writer k i l ∙ e)
+
       out : (a k i : ℕ) → Wrote (readsNoted s u c t) a k i → Wrote s a k i
       out a k i (l, e) = let m : i < count s k = rw (noted-length k) at l in (m, sym (same-writer k i m) ∙ e)

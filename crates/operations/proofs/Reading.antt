@@ -1,9 +1,8 @@
 -- The version that a read sees: what the arrays say of it, and when the read is wrong. Assumes nothing.
-use Prim.Native.Nat.{ℕ, zero, suc, _+_, _-_, _*_, _/_, _%_, _^_, _≤_, _<_}
-use mathlib.Core.Path.{_≡_, refl, sym, ap, _∙_, subst}
+use Prim.Native.Nat.{ℕ, _+_, _-_, _*_, _/_, _%_, _^_, _≤_, _<_}
+use mathlib.Core.Path.{_≡_, refl, sym, ap, _∙_}
 use mathlib.Core.Bool.{Bool, true, false, _&&_, not}
-use mathlib.Core.Logic.{_↔_}
-use mathlib.Core.Option.{Option, some, none}
+use mathlib.Core.Option.{some, none}
 use mathlib.Core.List.{List}
 use native.Mathlib.Omega.{arith}
 use lib.Dec.{T, eqb}
@@ -11,15 +10,15 @@ use lib.Pow.{pow-pos}
 use lib.Count.{leadingZeros}
 use lib.ListN.{getD}
 use Rattle.search.specs.Choose.{isSome, mapSome, when}
-use Rattle.search.proofs.Tests.{same, true-T, T-false}
+use Rattle.search.proofs.Tests.{true-T}
 use Rattle.search.proofs.Search.{least-found, least-none}
-use Rattle.sets.specs.Set.{has, highest}
+use Rattle.sets.specs.Set.{Set, has, highest}
 use Rattle.sets.proofs.Laws.{has-large, has-highest}
-use Rattle.store.specs.Store.{Key, Value, Version, View, Store, count, version, nextNumber, read, write, Commit}
-use Rattle.store.specs.Update.{valueOf, reads, writes, newest}
-use Rattle.store.specs.Missing.{Place}
+use Rattle.store.specs.Store.{Key, Value, Version, View, Store, count, version, nextNumber, read, Commit}
+use Rattle.store.specs.Update.{reads, writes, newest}
 use Rattle.store.specs.Refusal.{differs, wrongAt, wrongRead}
-use Rattle.state.specs.Places.{headPlace, readersPlace, packed}
+use Rattle.state.specs.Places.{headPlace, packed}
+use Rattle.state.specs.Keeps.{KeepsOperations}
 use Rattle.operations.specs.Given.{Given}
 
 -- no number is above all of an empty mask's
@@ -45,7 +44,7 @@ high-shifted high l = omega arith
 
 -- ---- operations by their ranks
 
-pub some-when : {A : Type 0} (b : Bool) (a : A) → isSome (when b a) ≡ b
+some-when : {A : Type 0} (b : Bool) (a : A) → isSome (when b a) ≡ b
 unfolding isSome when
 some-when true a = refl
 some-when false a = refl
@@ -55,14 +54,17 @@ unfolding differs when
 differs-when true x v = refl
 differs-when false x v = refl
 
+module _ {c : Commit} {ranks : Set} {values : List ℕ} (o : KeepsOperations c ranks values) (k : Key) where
+  pub reads-rank : reads c k ≡ has ranks (2 * k)
+  reads-rank = ap isSome (o .reads k) ∙ some-when (has ranks (2 * k)) _
+
+  pub writes-rank : writes c k ≡ has ranks (2 * k + 1)
+  writes-rank = ap isSome (o .writes k) ∙ some-when (has ranks (2 * k + 1)) _
+
+-- ---- the version that is seen
+
 module _ {s : Store} {u : View} {c : Commit} {versions views : List ℕ} {base : ℕ} {values : List ℕ} {ranks n : ℕ}
     (g : Given s u c versions views base values ranks n) where
-  pub reads-rank : (k : Key) → reads c k ≡ has ranks (2 * k)
-  reads-rank k = ap isSome (g .operations .reads k) ∙ some-when (has ranks (2 * k)) _
-
-  pub writes-rank : (k : Key) → writes c k ≡ has ranks (2 * k + 1)
-  writes-rank k = ap isSome (g .operations .writes k) ∙ some-when (has ranks (2 * k + 1)) _
-
   module _ (k : Key) (l : k < n) where
     -- the version that is seen is there
     pub seen-exists : newest u k < count s k
@@ -104,8 +106,8 @@ module _ {s : Store} {u : View} {c : Commit} {versions views : List ℕ} {base :
     unfolding wrongRead mapSome
     wrong-found before here e =
         rw (e, g .row k l)
-          (sym (ap (mapSome (λ q. record { key = q; version = newest u q }))
-            (least-found (s .keys) (wrongAt s u c) k (omega (arith, g .keys-are)) (true-T _ (sym here)) before)))
+        (sym (ap (mapSome (λ q. record { key = q; version = newest u q }))
+        (least-found (s .keys) (wrongAt s u c) k (omega (arith, g .keys-are)) (true-T _ (sym here)) before)))
 
   pub wrong-none : ((q : Key) → q < n → ¬ T (wrongAt s u c q)) → none ≡ wrongRead s u c
   unfolding wrongRead mapSome

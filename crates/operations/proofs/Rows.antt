@@ -1,19 +1,19 @@
 -- What the arrays say of the versions of one key, and a loop over the keys that changes what they say of one key at a time. Assumes nothing.
-use Prim.Native.Nat.{ℕ, suc, _+_, _*_, _^_, _≤_, _<_}
-use mathlib.Core.Path.{_≡_, refl, sym, ap, _∙_, subst}
+use Prim.Native.Nat.{ℕ, _+_, _*_, _^_, _≤_, _<_}
+use mathlib.Core.Path.{_≡_, sym, _∙_, subst}
 use mathlib.Core.Bool.{Bool, true, false}
 use mathlib.Core.Logic.{_≢_}
 use mathlib.Core.List.{List}
 use native.Mathlib.Omega.{arith}
 use native.Mathlib.Decide.{ℕ-discrete}
 use lib.ListN.{length, getD, set, length-set}
-use lib.Seq.{getD-set-same, getD-set-other}
+use lib.Seq.{getD-set-other}
 use Rattle.search.specs.Choose.{choose}
 use Rattle.sets.specs.Set.{below}
 use Rattle.store.specs.Limits.{maxKeys}
 use Rattle.store.specs.Store.{Key, VersionNumber, CommitNumber, Version, openingVersion, Store, count}
 use Rattle.state.specs.Places.{perKey, headPlace, readersPlace, fullPlace, writersPlace, packed}
-use Rattle.state.specs.Keeps.{IsSet, KeepsVersions, KeepsKeys}
+use Rattle.state.specs.Keeps.{IsSet, KeepsVersions}
 
 -- a choice by a test that failed, and by one that held
 pub choose-false : {A : Type 0} (b : Bool) (x y : A) → b ≡ false → y ≡ choose b x y

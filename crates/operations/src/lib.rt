@@ -5,14 +5,13 @@ ghost use mathlib.Core.Path.{_≡_};
 ghost use mathlib.Core.List.{List};
 ghost use Prim.Native.Nat.{ℕ, _+_, _*_, _/_, _%_, _^_, _<_, _≤_};
 ghost use lib.Bits.{bitOr};
-ghost use lib.ListN.{length, getD, set};
+ghost use lib.ListN.{length, getD};
 ghost use Rattle.search.specs.Choose.{choose};
-ghost use Rattle.sets.specs.Set.{has, insert, union, highest};
+ghost use Rattle.sets.specs.Set.{has, highest};
 ghost use Rattle.store.specs.Store.{View, Store, nextNumber, Commit};
 ghost use Rattle.store.specs.Refusal.{wrongAt, wrongRead};
 ghost use Rattle.store.specs.Update.{update};
-ghost use Rattle.state.specs.Places.{headPlace, readersPlace, fullPlace, writersPlace};
-ghost use Rattle.store.proofs.Updated.{Wrote};
+ghost use Rattle.state.specs.Places.{headPlace, readersPlace};
 ghost use Rattle.growth.proofs.Links.{FromRead, FromWrite, ToLater};
 ghost use Rattle.growth.proofs.Ordered.{Ordered};
 ghost use Rattle.state.specs.Answers.{placeOf};
@@ -25,11 +24,7 @@ ghost use Rattle.operations.specs.Change.{freeBit, free, readerAdded, ve
 fn newest(mask: u64) -> usize
     ensures { λ r. ⌜ (r ≡ highest mask) × (r < 64) ⌝ }
 {
-    if mask == 0 {
-        0
-    } else {
-        sets::highest(mask)
-    }
+    if mask == 0 { 0 } else { sets::highest(mask) }
 }
 
 // The value in the head of a version.
@@ -39,7 +34,7 @@ fn value_of(head: u64) -> u64
     head % 0x1_0000_0000
 }
 
-// The writer in the head of a version.
+// The writer in the head of a version; commit numbers are below 64.
 fn writer_of(head: u64) -> usize
     ensures { λ r. ⌜ (r ≡ head / 2 ^ 32 % 64) × (r < 64) ⌝ }
 {
@@ -64,7 +59,14 @@ fn head_seen(versions: &[u64], views: &[u64], base: usize, k: usize) -> u64
 }
 
 // Whether key k is read with another value than that of the newest version in the view.
-fn wrong_at(versions: &[u64], views: &[u64], base: usize, values: &[u64], ranks: u64, k: usize) -> bool
+fn wrong_at(
+    versions: &[u64],
+    views: &[u64],
+    base: usize,
+    values: &[u64],
+    ranks: u64,
+    k: usize,
+) -> bool
     requires { ⌜ (length (now versions) ≡ 2048) × (length (now views) ≡ 256) × (base + k < 256) × (k < 16) × (length (now values) ≡ 32) ⌝ }
     ensures { λ r. ⌜ ((s : Store) (u : View) (c : Commit) (n : ℕ)
         → Given s u c (now (versions .entry)) (now (views .entry)) base (now (values .entry)) ranks n → k < n → r ≡ wrongAt s u c k) ⌝ }
@@ -76,7 +78,14 @@ fn wrong_at(versions: &[u64], views: &[u64], base: usize, values: &[u64], ranks:
 }
 
 // Code 13: the least key that is read with another value than that of the newest version in the view, and that version.
-pub fn wrong_read(versions: &[u64], views: &[u64], base: usize, values: &[u64], ranks: u64, n: usize) -> state::Found
+pub fn wrong_read(
+    versions: &[u64],
+    views: &[u64],
+    base: usize,
+    values: &[u64],
+    ranks: u64,
+    n: usize,
+) -> state::Found
     requires { ⌜ (length (now versions) ≡ 2048) × (length (now views) ≡ 256) × (base + n ≤ 256) × (n ≤ 16) × (length (now values) ≡ 32) ⌝ }
     ensures { λ r. ⌜ ((s : Store) (u : View) (c : Commit)
         → Given s u c (now (versions .entry)) (now (views .entry)) base (now (values .entry)) ranks n → placeOf r ≡ wrongRead s u c) ⌝ }
@@ -134,7 +143,14 @@ fn later_at(versions: &[u64], keys: &[u64], views: &[u64], base: usize, ranks: u
 }
 
 // The writers of later versions of the keys that are read.
-pub fn overwriters(versions: &[u64], keys: &[u64], views: &[u64], base: usize, ranks: u64, n: usize) -> u64
+pub fn overwriters(
+    versions: &[u64],
+    keys: &[u64],
+    views: &[u64],
+    base: usize,
+    ranks: u64,
+    n: usize,
+) -> u64
     requires { ⌜ (length (now versions) ≡ 2048) × (length (now keys) ≡ 32) × (length (now views) ≡ 256) × (base + n ≤ 256) × (n ≤ 16) ⌝ }
     ensures { λ r. ⌜ ((s : Store) (u : View) (c : Commit) (values : List ℕ)
         → Given s u c (now (versions .entry)) (now (views .entry)) base values ranks n → KeepsKeys s (now (keys .entry)) → Ordered s
@@ -228,8 +244,16 @@ fn grow_key(keys: &mut [u64], k: usize, bit: u64, me: usize)
     keys[16 + k] = writers;
 }
 
-// A version by `me` appended to key k, where k is written. The bit of the new version is one more than the mask of all before it.
-fn append_at(versions: &mut [u64], keys: &mut [u64], values: &[u64], ranks: u64, k: usize, me: usize)
+// A version by `me` appended to key k, where k is written. The bit of the new version is one more than the mask of all before it; the sum
+// wraps only where there are 64 of them, which is so in no store with room for a commit.
+fn append_at(
+    versions: &mut [u64],
+    keys: &mut [u64],
+    values: &[u64],
+    ranks: u64,
+    k: usize,
+    me: usize,
+)
     requires { ⌜ (length (now versions) ≡ 2048) × (length (now keys) ≡ 32) × (length (now values) ≡ 32) × (k < 16) × (me < 64) ⌝ }
     ensures { λ _. ⌜ (now (versions .exit)
         ≡ choose (has ranks (2 * k + 1)) (versionAdded (now (versions .entry)) (headPlace k (free (now (keys .entry)) k)) (bitOr (getD (now (values .entry)) (2 * k + 1) 0) (me * 2 ^ 32))) (now (versions .entry)))
@@ -245,7 +269,14 @@ fn append_at(versions: &mut [u64], keys: &mut [u64], values: &[u64], ranks: u64,
 }
 
 // "Writes append (value, commit, no readers)."
-pub fn append(versions: &mut [u64], keys: &mut [u64], values: &[u64], ranks: u64, n: usize, me: usize)
+pub fn append(
+    versions: &mut [u64],
+    keys: &mut [u64],
+    values: &[u64],
+    ranks: u64,
+    n: usize,
+    me: usize,
+)
     requires { ⌜ (length (now versions) ≡ 2048) × (length (now keys) ≡ 32) × (length (now values) ≡ 32) × (n ≤ 16) × (me < 64) ⌝ }
     ensures { λ _. ⌜ ((s : Store) (c : Commit) → Appending s c (now (versions .entry)) (now (keys .entry)) (now (values .entry)) ranks n
         → KeepsVersions (writesAppended s c me) (now (versions .exit)) × KeepsKeys (writesAppended s c me) (now (keys .exit))) ⌝ }
@@ -258,7 +289,16 @@ pub fn append(versions: &mut [u64], keys: &mut [u64], values: &[u64], ranks: u64
 }
 
 // All operations of commit `me`, made on the view in the row at `base`: the reads first, which see what was there before.
-pub fn perform(versions: &mut [u64], keys: &mut [u64], views: &[u64], base: usize, values: &[u64], ranks: u64, n: usize, me: usize)
+pub fn perform(
+    versions: &mut [u64],
+    keys: &mut [u64],
+    views: &[u64],
+    base: usize,
+    values: &[u64],
+    ranks: u64,
+    n: usize,
+    me: usize,
+)
     requires { ⌜ (length (now versions) ≡ 2048) × (length (now keys) ≡ 32) × (length (now views) ≡ 256) × (length (now values) ≡ 32)
         × (base + n ≤ 256) × (n ≤ 16) × (me < 64) ⌝ }
     ensures { λ _. ⌜ ((s : Store) (u : View) (c : Commit)

@@ -1,17 +1,14 @@
-use borrow.Author.Needs.{needs}
-use Prim.Native.Nat.{ℕ, _-_, _≤_, _<_}
+-- `operations::append` meets its contract. The keys passed have their new versions, and the others are as before. Assumes nothing.
+use Prim.Native.Nat.{_-_, _≤_}
 use mathlib.Core.Path.{_≡_}
-use mathlib.Core.List.{List}
 use native.Mathlib.Omega.{arith}
+use borrow.Author.Needs.{needs}
 use lib.ListN.{length}
-use Rattle.store.specs.Store.{View, Store, Commit}
+use Rattle.store.specs.Store.{Store, Commit}
 use Rattle.operations.specs.Given.{Appending}
 use Rattle.operations.proofs.Appended.{WritesPassed, no-writes, write-appended, writes-appended}
 use Rattle.operations.proofs.append.Statement.{statement}
 use Rattle.operations.proofs.append.Tie as tie
-use Rattle.operations.proofs.append.Reads as reads
-use Rattle.operations.proofs.append.Lts as lts
-use Rattle.operations.proofs.append_at.Reads as append-at-reads
 
 abbrev Inv-loop : tie.InvT-loop
 Inv-loop versions₀ keys₀ values ranks n me k₀ versions keys k =
@@ -21,36 +18,28 @@ Inv-loop versions₀ keys₀ values ranks n me k₀ versions keys k =
 abbrev μ-loop : tie.MeasureT-loop
 μ-loop versions₀ keys₀ values ranks n me k₀ versions keys k = n - k
 
--- src/lib.rt:254:5
 loop-holds : tie.Need-loop-holds Inv-loop μ-loop
 loop-holds c = (omega arith, omega arith, omega arith, λ s d g. no-writes g _)
 
--- src/lib.rt:255:9
 append-at-requires : tie.Need-append-at-requires Inv-loop μ-loop
 append-at-requires c κs = search needs
 
--- src/lib.rt:256:13
 add-k : tie.Need-add-k Inv-loop μ-loop
 add-k c = search needs
 
--- src/lib.rt:254:5
 loop-less : tie.Need-loop-less Inv-loop μ-loop
 loop-less c = search needs
 
--- src/lib.rt:254:5
 loop-again : tie.Need-loop-again Inv-loop μ-loop
 loop-again c =
     (omega arith, omega arith, omega arith, λ s d g. write-appended g _ (omega arith) _ _ _ (omega arith) (c .before .before .before .before .append-at .ensures .0) (c .before .before .before .before .append-at .ensures .1) (c .before .before .before .before .before .before .before .before .loop .inv .3 s d g))
 
--- src/lib.rt:248:1
 same-length : tie.Need-same-length Inv-loop μ-loop
 same-length c = search needs
 
--- src/lib.rt:248:1
 same-length-2 : tie.Need-same-length-2 Inv-loop μ-loop
 same-length-2 c = search needs
 
--- src/lib.rt:248:1
 returns : tie.Need-returns Inv-loop μ-loop
 returns c = λ s d g. writes-appended g _ _ _ _ (omega arith) (omega arith) (omega arith) (c .before .loop .inv .3 s d g)
 

@@ -1,102 +1,76 @@
+-- `operations::append_at` meets its contract. Assumes nothing.
 use mathlib.Core.Path.{sym, _∙_}
 use borrow.Author.Tests.{not-true, not-false}
-use Rattle.operations.proofs.Rows.{choose-false, choose-true}
 use borrow.Author.Needs.{needs}
+use Rattle.operations.proofs.Rows.{choose-false, choose-true}
 use Rattle.operations.proofs.append_at.Statement.{statement}
 use Rattle.operations.proofs.append_at.Tie as tie
-use Rattle.operations.proofs.append_at.Reads as reads
-use Rattle.operations.proofs.append_at.Lts as lts
-use Rattle.operations.proofs.grow_key.Reads as grow-key-reads
-use Rattle.operations.proofs.head_of.Reads as head-of-reads
-use Rattle.operations.proofs.newest.Reads as newest-reads
-use Rattle.operations.proofs.put_version.Reads as put-version-reads
-use Rattle.sets.proofs.has.Reads as has-reads
-use Rattle.std.proofs.num.wrapping_add_u64.Reads as wrapping-add-u64-reads
 
--- src/lib.rt:238:26
 mul-has : tie.Need-mul-has
 mul-has c = search needs
 
--- src/lib.rt:238:26
 add-has : tie.Need-add-has
 add-has c = search needs
 
--- src/lib.rt:238:9
 has-requires : tie.Need-has-requires
 has-requires c κs = search needs
 
--- src/lib.rt:239:9
 returns : tie.Need-returns
 returns c =
     let e = sym (c .before .has .ensures) ∙ not-true _ (c .if1 .taken) in
     (choose-false _ _ _ e, choose-false _ _ _ e)
 
--- src/lib.rt:241:42
 mul-wrapping-add-u64 : tie.Need-mul-wrapping-add-u64
 mul-wrapping-add-u64 c = search needs
 
--- src/lib.rt:241:42
 slice-read-wrapping-add-u64 : tie.Need-slice-read-wrapping-add-u64
 slice-read-wrapping-add-u64 c = search needs
 
--- src/lib.rt:241:9
 wrapping-add-u64-requires : tie.Need-wrapping-add-u64-requires
 wrapping-add-u64-requires c κs = search needs
 
--- src/lib.rt:242:14
 mul-at : tie.Need-mul-at
 mul-at c = search needs
 
--- src/lib.rt:242:23
 newest-requires : tie.Need-newest-requires
 newest-requires c κs = search needs
 
--- src/lib.rt:242:14
 add-at : tie.Need-add-at
 add-at c = search needs
 
--- src/lib.rt:243:46
 mul-head-of : tie.Need-mul-head-of
 mul-head-of c = search needs
 
--- src/lib.rt:243:46
 add-head-of : tie.Need-add-head-of
 add-head-of c = search needs
 
--- src/lib.rt:243:39
 mul-head-of-2 : tie.Need-mul-head-of-2
 mul-head-of-2 c = search needs
 
--- src/lib.rt:243:39
 shared-slice-read-head-of : tie.Need-shared-slice-read-head-of
 shared-slice-read-head-of c = search needs
 
--- src/lib.rt:243:31
 head-of-requires : tie.Need-head-of-requires
 head-of-requires c κs = search needs
 
--- src/lib.rt:243:5
 put-version-requires : tie.Need-put-version-requires
 put-version-requires c κs = search needs
 
--- src/lib.rt:244:5
 grow-key-requires : tie.Need-grow-key-requires
 grow-key-requires c κs = search needs
 
--- src/lib.rt:232:1
 same-length : tie.Need-same-length
 same-length c = search needs
 
--- src/lib.rt:232:1
 same-length-2 : tie.Need-same-length-2
 same-length-2 c = search needs
 
--- src/lib.rt:232:1
 returns-2 : tie.Need-returns-2
 returns-2 c =
-    let e = sym (c .before .before .before .before .before .before .before .before .before .before .before .before .before .before .has .ensures) ∙ not-false _ (c .before .before .before .before .before .before .before .before .before .before .before .before .before .if1 .left) in
-    ( c .before .before .before .before .before .before .put-version .ensures ∙ rw (c .before .before .before .before .before .before .before .before .before .before .newest .ensures .0, c .before .before .before .before .before .before .before .before .before .before .before .wrapping-add-u64 .ensures, c .before .before .before .before .before .before .before .head-of .ensures) (choose-true _ _ _ e)
-    , c .before .before .grow-key .ensures ∙ rw (c .before .before .before .before .before .before .before .before .before .before .before .wrapping-add-u64 .ensures) (choose-true _ _ _ e) )
+    let e = sym (c .before .before .before .before .before .before .before .before .before .before .before .before .before .before .has .ensures) ∙ not-false _ (c .before .before .before .before .before .before .before .before .before .before .before .before .before .if1 .left) in (
+      c .before .before .before .before .before .before .put-version .ensures ∙ rw (c .before .before .before .before .before .before .before .before .before .before .newest .ensures .0, c .before .before .before .before .before .before .before .before .before .before .before .wrapping-add-u64 .ensures, c .before .before .before .before .before .before .before .head-of .ensures) (choose-true _ _ _ e),
+      c .before .before .grow-key .ensures ∙ rw (c .before .before .before .before .before .before .before .before .before .before .before .wrapping-add-u64 .ensures) (choose-true _ _ _ e),
+    )
 
 pub append-at-spec : {M : Type 1} → statement M
 append-at-spec =

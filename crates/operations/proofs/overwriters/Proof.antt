@@ -1,21 +1,17 @@
-use borrow.Author.Needs.{needs}
-use Prim.Native.Nat.{ℕ, _-_, _≤_, _<_}
-use mathlib.Core.Path.{_≡_}
+-- `operations::overwriters` meets its contract. The set so far is that of the keys passed. Assumes nothing.
+use Prim.Native.Nat.{ℕ, _-_, _≤_}
 use mathlib.Core.List.{List}
 use native.Mathlib.Omega.{arith}
+use borrow.Author.Needs.{needs}
 use Rattle.store.specs.Store.{View, Store, Commit}
 use Rattle.growth.proofs.Ordered.{Ordered}
 use Rattle.state.specs.Keeps.{IsSet, KeepsKeys}
-use Rattle.operations.specs.Given.{Given, Writing}
-use Rattle.operations.specs.PerKey.{readAt, laterAt, writtenAt}
+use Rattle.operations.specs.Given.{Given}
+use Rattle.operations.specs.PerKey.{laterAt}
 use Rattle.operations.proofs.Gather.{UpTo, gather-none, gather-more}
 use Rattle.operations.proofs.PerKey.{all-later}
 use Rattle.operations.proofs.overwriters.Statement.{statement}
 use Rattle.operations.proofs.overwriters.Tie as tie
-use Rattle.operations.proofs.overwriters.Reads as reads
-use Rattle.operations.proofs.overwriters.Lts as lts
-use Rattle.operations.proofs.later_at.Reads as later-at-reads
-use Rattle.sets.proofs.union.Reads as union-reads
 
 abbrev Inv-loop : tie.InvT-loop
 Inv-loop versions keys views base ranks n found₀ k₀ found k =
@@ -24,32 +20,25 @@ Inv-loop versions keys views base ranks n found₀ k₀ found k =
 abbrev μ-loop : tie.MeasureT-loop
 μ-loop versions keys views base ranks n found₀ k₀ found k = n - k
 
--- src/lib.rt:141:5
 loop-holds : tie.Need-loop-holds Inv-loop μ-loop
 loop-holds c = (omega arith, λ s u d values g h o. gather-none (laterAt s u d))
 
--- src/lib.rt:142:36
 later-at-requires : tie.Need-later-at-requires Inv-loop μ-loop
 later-at-requires c κs = search needs
 
--- src/lib.rt:142:9
 union-requires : tie.Need-union-requires Inv-loop μ-loop
 union-requires c κs = search needs
 
--- src/lib.rt:143:13
 add-k : tie.Need-add-k Inv-loop μ-loop
 add-k c = search needs
 
--- src/lib.rt:141:5
 loop-less : tie.Need-loop-less Inv-loop μ-loop
 loop-less c = search needs
 
--- src/lib.rt:141:5
 loop-again : tie.Need-loop-again Inv-loop μ-loop
 loop-again c =
     (omega arith, λ s u d values g h o. gather-more (laterAt s u d) _ _ _ (c .union .ensures) (c .before .before .before .loop .inv .1 s u d values g h o) (c .before .later-at .ensures s u d values _ g h o (omega arith)))
 
--- src/lib.rt:133:1
 returns : tie.Need-returns Inv-loop μ-loop
 returns c = λ s u d values g h o. all-later g _ (omega arith) _ (c .before .loop .inv .1 s u d values g h o)
 

@@ -1,41 +1,29 @@
+-- `operations::source_at` meets its contract. Assumes nothing.
 use mathlib.Core.Path.{sym, _∙_}
 use borrow.Author.Tests.{not-true, not-false}
-use Rattle.operations.proofs.PerKey.{source-unread, source-read, later-unread, later-read, earlier-unwritten, earlier-written}
 use borrow.Author.Needs.{needs}
+use Rattle.operations.proofs.PerKey.{source-unread, source-read}
 use Rattle.operations.proofs.source_at.Statement.{statement}
 use Rattle.operations.proofs.source_at.Tie as tie
-use Rattle.operations.proofs.source_at.Reads as reads
-use Rattle.operations.proofs.source_at.Lts as lts
-use Rattle.operations.proofs.head_seen.Reads as head-seen-reads
-use Rattle.operations.proofs.writer_of.Reads as writer-of-reads
-use Rattle.sets.proofs.has.Reads as has-reads
-use Rattle.sets.proofs.single.Reads as single-reads
 
--- src/lib.rt:96:26
 mul-has : tie.Need-mul-has
 mul-has c = search needs
 
--- src/lib.rt:96:9
 has-requires : tie.Need-has-requires
 has-requires c κs = search needs
 
--- src/lib.rt:97:9
 returns : tie.Need-returns
 returns c = λ s u d values n g l. source-unread g _ l (sym (c .before .has .ensures) ∙ not-true _ (c .if1 .taken))
 
--- src/lib.rt:99:28
 head-seen-requires : tie.Need-head-seen-requires
 head-seen-requires c κs = search needs
 
--- src/lib.rt:99:18
 writer-of-requires : tie.Need-writer-of-requires
 writer-of-requires c κs = search needs
 
--- src/lib.rt:99:5
 single-requires : tie.Need-single-requires
 single-requires c κs = search needs
 
--- src/lib.rt:91:1
 returns-2 : tie.Need-returns-2
 returns-2 c =
     λ s u d values n g l.

@@ -1,48 +1,35 @@
+-- `operations::wrong_at` meets its contract. Assumes nothing.
 use mathlib.Core.Path.{sym, _∙_}
 use borrow.Author.Tests.{not-true, not-false}
-use Rattle.operations.proofs.Reading.{wrong-unread, wrong-read}
 use borrow.Author.Needs.{needs}
+use Rattle.operations.proofs.Reading.{wrong-unread, wrong-read}
 use Rattle.operations.proofs.wrong_at.Statement.{statement}
 use Rattle.operations.proofs.wrong_at.Tie as tie
-use Rattle.operations.proofs.wrong_at.Reads as reads
-use Rattle.operations.proofs.wrong_at.Lts as lts
-use Rattle.operations.proofs.head_seen.Reads as head-seen-reads
-use Rattle.operations.proofs.value_of.Reads as value-of-reads
-use Rattle.sets.proofs.has.Reads as has-reads
 
--- src/lib.rt:63:26
 mul-has : tie.Need-mul-has
 mul-has c = search needs
 
--- src/lib.rt:63:9
 has-requires : tie.Need-has-requires
 has-requires c κs = search needs
 
--- src/lib.rt:64:9
 returns : tie.Need-returns
 returns c = λ s u d n g l. wrong-unread g _ l (sym (c .before .has .ensures) ∙ not-true _ (c .if1 .taken))
 
--- src/lib.rt:66:12
 mul-result : tie.Need-mul-result
 mul-result c = search needs
 
--- src/lib.rt:66:5
 mul-result-2 : tie.Need-mul-result-2
 mul-result-2 c = search needs
 
--- src/lib.rt:66:5
 shared-slice-read-result : tie.Need-shared-slice-read-result
 shared-slice-read-result c = search needs
 
--- src/lib.rt:66:31
 head-seen-requires : tie.Need-head-seen-requires
 head-seen-requires c κs = search needs
 
--- src/lib.rt:66:22
 value-of-requires : tie.Need-value-of-requires
 value-of-requires c κs = search needs
 
--- src/lib.rt:58:1
 returns-2 : tie.Need-returns-2
 returns-2 c =
     λ s u d n g l. rw (c .value-of .ensures) (wrong-read g _ l (sym (c .before .before .before .before .has .ensures) ∙ not-false _ (c .before .before .before .if1 .left)) (c .before .head-seen .ensures))

@@ -1,7 +1,8 @@
-use borrow.Author.Needs.{needs}
+-- `operations::wrong_read` meets its contract. The keys passed are not read wrongly. Assumes nothing.
 use Prim.Native.Nat.{ℕ, _-_, _≤_, _<_}
-use mathlib.Core.Path.{_≡_, sym, ap, _∙_}
+use mathlib.Core.Path.{sym, _∙_}
 use native.Mathlib.Omega.{arith}
+use borrow.Author.Needs.{needs}
 use borrow.Author.Count.{below-more}
 use lib.Dec.{T}
 use Rattle.store.specs.Store.{View, Store, Commit}
@@ -10,10 +11,6 @@ use Rattle.operations.specs.Given.{Given}
 use Rattle.operations.proofs.Reading.{false-T, wrong-found, wrong-none}
 use Rattle.operations.proofs.wrong_read.Statement.{statement}
 use Rattle.operations.proofs.wrong_read.Tie as tie
-use Rattle.operations.proofs.wrong_read.Reads as reads
-use Rattle.operations.proofs.wrong_read.Lts as lts
-use Rattle.operations.proofs.seen.Reads as seen-reads
-use Rattle.operations.proofs.wrong_at.Reads as wrong-at-reads
 
 abbrev Inv-loop : tie.InvT-loop
 Inv-loop versions views base values ranks n k₀ k =
@@ -22,38 +19,31 @@ Inv-loop versions views base values ranks n k₀ k =
 abbrev μ-loop : tie.MeasureT-loop
 μ-loop versions views base values ranks n k₀ k = n - k
 
--- src/lib.rt:76:5
 loop-holds : tie.Need-loop-holds Inv-loop μ-loop
 loop-holds c = search needs
 
--- src/lib.rt:77:12
 wrong-at-requires : tie.Need-wrong-at-requires Inv-loop μ-loop
 wrong-at-requires c κs = search needs
 
--- src/lib.rt:78:73
 seen-requires : tie.Need-seen-requires Inv-loop μ-loop
 seen-requires c κs = search needs
 
--- src/lib.rt:78:13
 returns : tie.Need-returns Inv-loop μ-loop
 returns c =
     λ s u d g. wrong-found g _ (omega arith) (c .before .before .before .before .loop .inv .1 s u d g) (sym (c .before .if1 .taken) ∙ c .before .before .wrong-at .ensures s u d _ g (omega arith)) (c .seen .ensures .0)
 
--- src/lib.rt:80:13
 add-k : tie.Need-add-k Inv-loop μ-loop
 add-k c = search needs
 
--- src/lib.rt:76:5
 loop-less : tie.Need-loop-less Inv-loop μ-loop
 loop-less c = search needs
 
--- src/lib.rt:76:5
 loop-again : tie.Need-loop-again Inv-loop μ-loop
-loop-again c =
-    ( omega arith
-    , λ s u d g. below-more _ _ (c .before .before .before .loop .inv .1 s u d g) (λ t. false-T _ (sym (c .before .wrong-at .ensures s u d _ g (omega arith)) ∙ c .if1 .left) t) )
+loop-again c = (
+  omega arith,
+  λ s u d g. below-more _ _ (c .before .before .before .loop .inv .1 s u d g) (λ t. false-T _ (sym (c .before .wrong-at .ensures s u d _ g (omega arith)) ∙ c .if1 .left) t),
+)
 
--- src/lib.rt:70:1
 returns-2 : tie.Need-returns-2 Inv-loop μ-loop
 returns-2 c = λ s u d g. wrong-none g (λ q l. c .before .loop .inv .1 s u d g q (omega arith))
 
