@@ -3,4 +3,5 @@ pub mod Codes
 pub mod Looking
 pub mod Words
 pub mod Own
+pub mod Gathered
 pub mod Rows
