@@ -93,13 +93,16 @@ module _ (versions fresh masks : List ℕ) (base : ℕ) where
   pub gains-none : (gain : List ℕ) → Gains versions fresh masks base 0 gain 0
   gains-none gain = record { each = λ l b. absurd (omega arith); whole = keys-none (GainedAt versions fresh masks base) }
 
-  pub gains-more : (k all w : ℕ) {more : ℕ} {gain : List ℕ} → Gains versions fresh masks base k gain all → k < length gain → IsSet w (GainedAt versions fresh masks base k)
+  pub gains-more : (k all w : ℕ) {m more : ℕ} {gain : List ℕ} → Gains versions fresh masks base k gain all → k < length gain
+      → m ≡ without (getD fresh k 0) (getD masks (base + k) 0) → IsSet w (WriterAmong versions k m)
       → more ≡ union all w → Gains versions fresh masks base (k + 1) (set gain k w) more
-  gains-more k all w {more} {gain} g l p e = record {
+  gains-more k all w {m} {more} {gain} g l q s e = record {
     each = λ i b. each i b (ℕ-discrete i k);
     whole = keys-more (GainedAt versions fresh masks base) k all w (g .whole) p e
   }
     where
+      p : IsSet w (GainedAt versions fresh masks base k)
+      p = rw (← q) s
       each : (i : ℕ) → i < k + 1 → Dec (i ≡ k) → IsSet (getD (set gain k w) i 0) (GainedAt versions fresh masks base i)
       each i b (yes q) = rw (q, getD-set-same gain k w 0 l) p
       each i b (no q) = rw (getD-set-other gain k i w 0 q) (g .each i (omega arith))

@@ -1,0 +1,69 @@
+use borrow.Author.Needs.{needs}
+use Rattle.views.proofs.held.grown.Statement.{statement}
+use Rattle.views.proofs.held.grown.Tie as tie
+use Rattle.views.proofs.held.grown.Reads as reads
+use Rattle.views.proofs.held.grown.Lts as lts
+use Rattle.sets.proofs.union.Reads as union-reads
+use Rattle.views.proofs.held.gained.Reads as gained-reads
+use Rattle.views.proofs.held.half_held.Reads as half-held-reads
+use Rattle.views.proofs.missing.least_by_writer.Reads as least-by-writer-reads
+
+-- src/held.rt:66:52
+slice-aggregate-gained : tie.Need-slice-aggregate-gained
+slice-aggregate-gained c = search needs
+
+-- src/held.rt:66:9
+gained-requires : tie.Need-gained-requires
+gained-requires c κs = search needs
+
+-- src/held.rt:67:32
+slice-aggregate-half-held : tie.Need-slice-aggregate-half-held
+slice-aggregate-half-held c = search needs
+
+-- src/held.rt:67:9
+half-held-requires : tie.Need-half-held-requires
+half-held-requires c κs = search needs
+
+-- src/held.rt:68:9
+union-requires : tie.Need-union-requires
+union-requires c κs = search needs
+
+-- src/held.rt:70:9
+returns : tie.Need-returns
+returns c = ?
+
+-- src/held.rt:72:11
+least-by-writer-requires : tie.Need-least-by-writer-requires
+least-by-writer-requires c κs = search needs
+
+-- src/held.rt:73:26
+enum-known-k : tie.Need-enum-known-k
+enum-known-k c = search needs
+
+-- src/held.rt:74:34
+enum-told : tie.Need-enum-told
+enum-told c = search needs
+
+-- src/held.rt:61:1
+returns-2 : tie.Need-returns-2
+returns-2 c = ?
+
+-- src/held.rt:61:1
+returns-3 : tie.Need-returns-3
+returns-3 c = ?
+
+pub grown-spec : {M : Type 1} → statement M
+grown-spec =
+    tie.close
+    (tie.spec
+    slice-aggregate-gained
+    gained-requires
+    slice-aggregate-half-held
+    half-held-requires
+    union-requires
+    returns
+    least-by-writer-requires
+    enum-known-k
+    enum-told
+    returns-2
+    returns-3)
