@@ -4,4 +4,6 @@ pub mod Looking
 pub mod Words
 pub mod Own
 pub mod Gathered
+pub mod Agree
+pub mod Grown
 pub mod Rows

@@ -1,3 +1,6 @@
+use Rattle.views.proofs.Grown.{with-fresh, grown-holds, half-same, none-half}
+use Rattle.state.specs.Answers.{placeOf}
+use mathlib.Core.Path.{sym, ap, _∙_}
 use borrow.Author.Needs.{needs}
 use Rattle.views.proofs.held.grown.Statement.{statement}
 use Rattle.views.proofs.held.grown.Tie as tie
@@ -30,7 +33,9 @@ union-requires c κs = search needs
 
 -- src/held.rt:70:9
 returns : tie.Need-returns
-returns c = ?
+returns c = λ s old u m grows.
+    ( none-half s old u _ _ _ _ _ _ _ m grows _ _ (c .before .before .half-held .result) (c .before .before .before .before .before .gained .ensures .1) (c .before .before .half-held .ensures) (c .if1 .taken)
+    , grown-holds s old u _ _ _ _ _ _ _ m grows _ _ (c .before .before .half-held .result) (c .before .before .before .before .before .gained .ensures .1) (c .before .before .half-held .ensures) (c .before .union .ensures) )
 
 -- src/held.rt:72:11
 least-by-writer-requires : tie.Need-least-by-writer-requires
@@ -46,11 +51,16 @@ enum-told c = search needs
 
 -- src/held.rt:61:1
 returns-2 : tie.Need-returns-2
-returns-2 c = ?
+returns-2 c = λ s old u m grows.
+    half-same s old u _ _ _ _ _ _ _ m grows _ _ (c .before .before .before .before .before .before .half-held .result) (c .before .before .before .before .before .before .before .before .before .gained .ensures .1) (c .before .before .before .before .before .before .half-held .ensures)
+    ∙ sym (c .before .before .before .least-by-writer .ensures s u (with-fresh s old u _ _ _ _ _ _ _ m)) ∙ ap placeOf (c .before .k .given .1)
 
 -- src/held.rt:61:1
 returns-3 : tie.Need-returns-3
-returns-3 c = ?
+returns-3 c = λ s old u m grows.
+    ( half-same s old u _ _ _ _ _ _ _ m grows _ _ (c .before .before .before .before .before .half-held .result) (c .before .before .before .before .before .before .before .before .gained .ensures .1) (c .before .before .before .before .before .half-held .ensures)
+      ∙ sym (c .before .before .least-by-writer .ensures s u (with-fresh s old u _ _ _ _ _ _ _ m)) ∙ ap placeOf (c .enum-told .given .1)
+    , grown-holds s old u _ _ _ _ _ _ _ m grows _ _ (c .before .before .before .before .before .half-held .result) (c .before .before .before .before .before .before .before .before .gained .ensures .1) (c .before .before .before .before .before .half-held .ensures) (c .before .before .before .before .union .ensures) )
 
 pub grown-spec : {M : Type 1} → statement M
 grown-spec =
