@@ -16,7 +16,7 @@ use Rattle.sets.proofs.Algebra.{without-is}
 use Rattle.dependencies.specs.History.{Holds}
 use Rattle.store.specs.Store.{Key, VersionNumber, CommitNumber, View, Store, count, version}
 use Rattle.store.specs.Missing.{Place, missing}
-use Rattle.store.specs.Refusal.{badMask, halfHeld, wholeWriters}
+use Rattle.store.specs.Refusal.{badMask, halfHeld, wholeWriters, allOf}
 use Rattle.store.proofs.Updated.{Wrote}
 use Rattle.store.proofs.Sound.{IsView, SoundStore, FitsView}
 use Rattle.store.proofs.Missing.{missing-none}
@@ -116,3 +116,7 @@ module _ (s : Store) (old u : View) (n : ℕ) (versions keys masks : List ℕ) (
 
     pub none-half : half ≡ 0 → halfHeld s u ≡ none
     none-half e = half-same ∙ missing-none s (byWriter s half) u .1 (λ k i l b t. absurd (has-none (version s k i .writer) (has-as (version s k i .writer) e t)))
+
+  -- the masks hold all of the view where nothing of it is missing
+  pub nothing-lost : none ≡ missing s (allOf old) u → (k i : ℕ) → T (has (old k) i) → T (has (u k) i)
+  nothing-lost e k i t = let l = m .view .exist k i t in missing-none s (allOf old) u .0 (sym e) k i (sound .only-keys k i l) l t

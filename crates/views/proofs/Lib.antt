@@ -6,4 +6,5 @@ pub mod Own
 pub mod Gathered
 pub mod Agree
 pub mod Grown
+pub mod OpeningView
 pub mod Rows
