@@ -2,16 +2,16 @@ use Prim.Native.Nat.{ℕ}
 use mathlib.Core.Path.{sym, subst}
 use Rattle.growth.proofs.Links.{FromSession}
 use Rattle.state.specs.Keeps.{IsSet}
-use Rattle.run.proofs.LedBy.{as-given, as-writing, led-before}
+use Rattle.making.proofs.LedBy.{as-given, as-writing, led-before}
 use borrow.Author.Needs.{needs}
-use Rattle.run.proofs.commits.led_by.Statement.{statement}
-use Rattle.run.proofs.commits.led_by.Tie as tie
-use Rattle.run.proofs.commits.led_by.Reads as reads
-use Rattle.run.proofs.commits.led_by.Lts as lts
+use Rattle.making.proofs.led_by.Statement.{statement}
+use Rattle.making.proofs.led_by.Tie as tie
+use Rattle.making.proofs.led_by.Reads as reads
+use Rattle.making.proofs.led_by.Lts as lts
 use Rattle.operations.proofs.earlier.Reads as earlier-reads
 use Rattle.operations.proofs.overwriters.Reads as overwriters-reads
 use Rattle.operations.proofs.sources.Reads as sources-reads
-use Rattle.run.proofs.commits.before_of.Reads as before-of-reads
+use Rattle.making.proofs.before_of.Reads as before-of-reads
 
 -- src/commits.rt:43:16
 mul-base : tie.Need-mul-base

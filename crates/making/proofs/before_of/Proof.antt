@@ -1,10 +1,10 @@
 use mathlib.Core.Path.{refl}
 use Rattle.search.proofs.Steps.{tests, choose-first, choose-second}
 use borrow.Author.Needs.{needs}
-use Rattle.run.proofs.commits.before_of.Statement.{statement}
-use Rattle.run.proofs.commits.before_of.Tie as tie
-use Rattle.run.proofs.commits.before_of.Reads as reads
-use Rattle.run.proofs.commits.before_of.Lts as lts
+use Rattle.making.proofs.before_of.Statement.{statement}
+use Rattle.making.proofs.before_of.Tie as tie
+use Rattle.making.proofs.before_of.Reads as reads
+use Rattle.making.proofs.before_of.Lts as lts
 
 -- src/commits.rt:27:9
 returns : tie.Need-returns

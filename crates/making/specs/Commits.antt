@@ -8,8 +8,8 @@ use Rattle.store.specs.Store.{View, Store, nextNumber, Commit}
 use Rattle.growth.proofs.Made.{Made}
 use Rattle.growth.proofs.Ordered.{Ordered}
 use Rattle.growth.proofs.Links.{FromSession, FromRead, FromWrite, ToLater}
-use Rattle.state.specs.Keeps.{IsSet, RowIs, KeepsOperations, KeepsVersions, KeepsKeys, KeepsSessions}
-use Rattle.run.specs.declared.commits.Led.{Led}
+use Rattle.state.specs.Keeps.{IsSet, RowIs, KeepsOperations, KeepsVersions, KeepsKeys, KeepsSessions, KeepsCommits, KeepsLinks}
+use Rattle.making.specs.declared.Led.{Led}
 
 -- commit c of a client, on view u of store s; the store, the view and the operations are in the arrays
 pub record CommitGiven (s : Store) (u : View) (c : Commit) (versions keys views sessions values : List ℕ) (client : ℕ) (ranks : Set) (n : ℕ) : Type 0 where
@@ -30,3 +30,11 @@ pub record LedSays (s : Store) (u : View) (c : Commit) (r : Led) : Type 0 where
   pub by-read : IsSet (r .sources) (FromRead s u c)
   pub by-write : IsSet (r .earlier) (FromWrite s c)
   pub to-later : IsSet (r .over) (ToLater s u c)
+
+-- the arrays of the store keep it
+pub record MadeIn (s : Store) (versions keys sessions commits links : List ℕ) : Type 0 where
+  pub in-versions : KeepsVersions s versions
+  pub in-keys : KeepsKeys s keys
+  pub in-sessions : KeepsSessions s sessions
+  pub in-commits : KeepsCommits s commits
+  pub in-links : KeepsLinks s links

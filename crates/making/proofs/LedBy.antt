@@ -17,8 +17,8 @@ use Rattle.growth.proofs.Links.{FromSession}
 use Rattle.state.specs.Keeps.{IsSet, CommitOf}
 use Rattle.state.proofs.Sets.{isSet-as, isSet-none}
 use Rattle.operations.specs.Given.{Given, Writing}
-use Rattle.run.specs.Commits.{CommitGiven}
-use Rattle.run.proofs.Operating.{idle-ranks, busy-ranks}
+use Rattle.making.specs.Commits.{CommitGiven}
+use Rattle.making.proofs.Operating.{idle-ranks, busy-ranks}
 
 module _ (s : Store) (u : View) (c : Commit) (versions keys views sessions values : List ℕ) (client : ℕ) (ranks : Set) (n : ℕ)
     (g : CommitGiven s u c versions keys views sessions values client ranks n) where

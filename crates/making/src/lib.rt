@@ -7,8 +7,8 @@ ghost use lib.ListN.{length, getD};
 ghost use Rattle.search.specs.Choose.{choose};
 ghost use Rattle.store.specs.Store.{Store, View, Commit, nextNumber};
 ghost use Rattle.store.specs.Update.{update};
-ghost use Rattle.state.specs.Keeps.{KeepsVersions, KeepsKeys, KeepsSessions, KeepsCommits, KeepsLinks};
-ghost use Rattle.run.specs.Commits.{CommitGiven, LedSays};
+ghost use Rattle.state.specs.Keeps.{KeepsCommits, KeepsLinks};
+ghost use Rattle.making.specs.Commits.{CommitGiven, LedSays, MadeIn};
 
 // The commits from which a link leads to the commit at hand, by SO, WR and WW; and those to which RW leads from it.
 pub struct Led {
@@ -46,4 +46,24 @@ fn led_by(versions: &[u64], keys: &[u64], views: &[u64], sessions: &[u64], clien
     let over = operations::overwriters(versions, keys, views, base, ranks, n);
     let earlier = operations::earlier(keys, ranks, n);
     Led { before, sources, earlier, over }
+}
+
+// The commit is made: its operations on the versions and keys, its links, and its place in its session and in the log.
+pub fn make(versions: &mut [u64], keys: &mut [u64], views: &[u64], sessions: &mut [u64], commits: &mut [u64], links: &mut [u64], values: &[u64], client: usize, session: u32, ranks: u64, n: usize, me: usize)
+    requires { ⌜ (n ≤ 16) × (client < 16) × (me < 64) × (length (now versions) ≡ 2048) × (length (now keys) ≡ 32) × (length (now views) ≡ 256) ⌝ }
+    requires { ⌜ (length (now sessions) ≡ 48) × (length (now commits) ≡ 192) × (length (now links) ≡ 160) × (length (now values) ≡ 32) ⌝ }
+    ensures {
+        λ _. ⌜
+            ((s : Store) (u : View) (c : Commit)
+                → CommitGiven s u c (now (versions .entry)) (now (keys .entry)) (now (views .entry)) (now (sessions .entry)) (now (values .entry)) client ranks n
+                → nextNumber s ≡ me → c .session ≡ session → KeepsCommits s (now (commits .entry)) → KeepsLinks s (now (links .entry))
+                → MadeIn (update s u c) (now (versions .exit)) (now (keys .exit)) (now (sessions .exit)) (now (commits .exit)) (now (links .exit)))
+        ⌝
+    }
+{
+    let led = led_by(versions, keys, views, sessions, client, ranks, n);
+    let sources = led.sources;
+    operations::perform(versions, keys, views, 16 * client, values, ranks, n, me);
+    paths::add(links, me, led.before, sources, led.earlier, led.over, ranks, n);
+    sessions::settle(sessions, commits, client, session, me, ranks != 0, sources);
 }
