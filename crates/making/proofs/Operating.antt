@@ -1,15 +1,16 @@
 -- A commit has an operation exactly where the set of its ranks is not empty. Assumes nothing.
 use Prim.Native.Nat.{ℕ, zero, suc, _+_, _*_, _/_, _%_, _^_, _≤_, _<_}
 use mathlib.Core.Path.{_≡_, refl, sym, ap, _∙_, subst}
-use mathlib.Core.Bool.{Bool, true, false}
+use mathlib.Core.Bool.{Bool, true, false, not}
 use mathlib.Core.Logic.{_⊎_, inl, inr, _↔_, _≢_}
 use mathlib.Core.Option.{Option, some, none}
 use mathlib.Core.List.{List}
 use native.Mathlib.Omega.{arith}
 use native.Mathlib.Decide.{decLt}
-use lib.Dec.{T}
+use lib.Dec.{T, eqb, eqb→eq, T-not, not-T}
 use lib.ListN.{getD}
 use Rattle.search.specs.Choose.{isSome, when}
+use Rattle.search.proofs.Tests.{T-true, true-T, eq-test}
 use Rattle.sets.specs.Set.{Set, has, lowest}
 use Rattle.sets.proofs.Laws.{has-none, has-lowest}
 use Rattle.store.specs.Store.{Commit, Value, read, write}
@@ -55,3 +56,9 @@ module _ (c : Commit) (ranks : Set) (values : List ℕ) (o : KeepsOperations c r
         where
           odd : lowest ranks % 2 ≡ suc r → lowest ranks ≡ 2 * (lowest ranks / 2) + 1
           odd q = omega arith
+
+  -- as the code tests it
+  pub operates-is : ranks < 2 ^ 64 → (not (eqb ranks 0) ≡ true) ↔ Operates c
+  operates-is w =
+      ( λ e. busy-ranks w (λ q. T-not (eqb ranks 0) (true-T (not (eqb ranks 0)) e) (eq-test ranks 0 q))
+      , λ o. T-true (not (eqb ranks 0)) (not-T (eqb ranks 0) (λ t. idle-ranks (eqb→eq ranks 0 t) o)) )
