@@ -96,7 +96,7 @@ module _ (s : List ℕ) (h : Format.Header) (at index commits left : ℕ) (few :
         subst (ReadAt s h at) is (record-read s bytes h at) .2,
         fits,
         subst (λ n. Follows (eventsFrom s h (left - 1) next (index + 1) count) (eventsFrom s h n at index commits)) (sym (one-more some))
-        (rw (add-one index, ← counted) rest),
+            (rw (add-one index, ← counted) rest),
       )
 
   -- it was refused

@@ -55,12 +55,12 @@ loop-again c =
     let l = c .before .before .before .before .before in
     let a = l .before .before .args in
     let s = now (a .s) in
-    let rank : rankAt s (l .loop .at) + 1 ≡ 2 * c .before .byte-at .result + c .byte-at2 .result + 1 = omega arith in
-    ( omega arith
-    , omega arith
-    , l .loop .inv .2
-      ∙ operationsFit-next s (l .loop .at) (a .keys) (l .loop .low) (l .loop .left) (omega arith) (cc)
-      ∙ ap (λ k. operationsFit s (l .loop .at + 8) (a .keys) k (l .loop .left - 1)) rank
+    let rank : rankAt s (l .loop .at) + 1 ≡ 2 * c .before .byte-at .result + c .byte-at2 .result + 1 = omega arith in (
+      omega arith,
+      omega arith,
+      l .loop .inv .2
+          ∙ operationsFit-next s (l .loop .at) (a .keys) (l .loop .low) (l .loop .left) (omega arith) (cc)
+          ∙ ap (λ k. operationsFit s (l .loop .at + 8) (a .keys) k (l .loop .left - 1)) rank,
     )
 
 returns : tie.Need-returns Inv-loop μ-loop
