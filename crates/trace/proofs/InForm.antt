@@ -181,6 +181,7 @@ pub record Taken (s : List ℕ) (h : Header) : Type 0 where
   pub size : eqb (leAt s 4 2) 8 ≡ true
   pub kind : eqb (leAt s 6 2) 1 ≡ true
   pub limits : withinLimits (headerOf h) ≡ true
+  pub few-records : h .records < 65536
   pub is-header : headerOf h ≡ headerAt s
 
 -- then the file is what its records are
@@ -208,6 +209,7 @@ form-says {s} {h} (Whole g) said t =
       few-keys = few-keys;
       some-client = some-client;
       few-clients = few-clients;
+      few-records = t .few-records;
       events = said .1;
       read = said .2;
       decoded = decode-records s h t ∙ rw (said .2) refl;

@@ -1,6 +1,6 @@
 -- What the answers of the code mean: "Each enum answer has a definition that gives this paper's number and values for each of its
 -- cases" (01, Which shape goes where). Assumes nothing.
-use Prim.Native.Nat.{ℕ, _+_, _*_, _≤_}
+use Prim.Native.Nat.{ℕ, _+_, _*_, _≤_, _<_}
 use mathlib.Core.Path.{_≡_}
 use mathlib.Core.Bool.{true}
 use mathlib.Core.List.{List}
@@ -81,6 +81,7 @@ pub record WholeFile (s : List ℕ) (h : Header) : Type 0 where
   pub few-keys : h .keys ≤ maxKeys
   pub some-client : 1 ≤ h .clients
   pub few-clients : h .clients ≤ maxClients
+  pub few-records : h .records < 65536
   pub events : List Event
   pub read : eventsFrom s (headerOf h) (h .records) minBytes 1 0 ≡ taken events
   pub decoded : decode s ≡ taken (record { keys = h .keys; clients = h .clients; events = events })
