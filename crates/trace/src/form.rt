@@ -79,7 +79,11 @@ fn records_form(s: &[u8], h: Header) -> Form
     let mut left = h.records;
     while 0 < left {
         let step = step_of(reader::record_from(s, at, h.keys, h.clients), commits);
-        let Step::Next { at: next, commits: count } = step else {
+        let Step::Next {
+            at: next,
+            commits: count,
+        } = step
+        else {
             return Form::Misshapen {
                 code: stop_code(step),
                 record: index,

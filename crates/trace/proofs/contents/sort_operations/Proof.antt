@@ -79,8 +79,7 @@ loop-less c = search needs
 loop-again : tie.Need-loop-again Inv-loop μ-loop
 loop-again c =
     let l = c .before .before .before .before .loop in
-    let start = c .before .before .before .before .before .before .before in
-    (
+    let start = c .before .before .before .before .before .before .before in (
       omega arith,
       length-set (l .values) _ _ ∙ l .inv .1,
       λ keys few fit. sorted-turn (l .inv .2 keys few fit) (omega arith) few (omega arith) (omega arith) (c .u32-at .ensures),

@@ -46,8 +46,8 @@ returns c =
     let a = l .before .before .args in
     let t = c .before .enum-told .given in
     let stop =
-        events-stop (now (a .s)) (headerOf (a .h)) (l .loop .at) (l .loop .index) (l .loop .commits) (l .loop .left) (l .loop .inv .1) _
-        (c .before .before .before .before .record-from .ensures (a .h .records)) (omega arith) (sym (t .1) ∙ c .before .before .before .step-of .ensures) in
+    events-stop (now (a .s)) (headerOf (a .h)) (l .loop .at) (l .loop .index) (l .loop .commits) (l .loop .left) (l .loop .inv .1) _
+    (c .before .before .before .before .record-from .ensures .0 (a .h .records)) (omega arith) (sym (t .1) ∙ c .before .before .before .step-of .ensures) in
     l .loop .inv .3 .refusal _ (stop ∙ ap (λ k. refused (refuse k (l .loop .index))) (sym (c .stop-code .ensures ∙ ap stopCode (t .1))))
 
 add-index : tie.Need-add-index Inv-loop μ-loop
@@ -64,9 +64,9 @@ loop-again c =
     let l = c .before .before .before .before .before .before in
     let a = l .before .before .args in
     let (within, few, follows) =
-        events-next (now (a .s)) (headerOf (a .h)) (l .loop .at) (l .loop .index) (l .loop .commits) (l .loop .left) (l .loop .inv .1) _
-        (c .before .before .before .before .record-from .ensures (a .h .records)) (λ i. l .before .shared-slice-known .given i .fits) (omega arith)
-        (sym (c .before .step .given .1) ∙ c .before .before .before .step-of .ensures) in
+    events-next (now (a .s)) (headerOf (a .h)) (l .loop .at) (l .loop .index) (l .loop .commits) (l .loop .left) (l .loop .inv .1) _
+    (c .before .before .before .before .record-from .ensures .0 (a .h .records)) (λ i. l .before .shared-slice-known .given i .fits) (omega arith)
+    (sym (c .before .step .given .1) ∙ c .before .before .before .step-of .ensures) in
     (within, few, omega arith, follows-then follows (l .loop .inv .3))
 
 returns-2 : tie.Need-returns-2 Inv-loop μ-loop
