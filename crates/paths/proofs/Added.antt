@@ -88,5 +88,5 @@ module _ (kind me : ℕ) (first into over ranks : Set) (n : ℕ) (k2 : kind < 2)
     old-row = λ t l x. subst (λ (w : ℕ). IsSet w (λ a. T (has (getD before (linkPlace kind t) 0) a) ⊎ (T (has over t) × T (has first a)))) (sym (row-kept t l x)) (gained pointed (linkPlace kind t) (has over t) (row-at t l));
     lead = λ k l. subst (λ (w : ℕ). IsSet (getD after (leadPlace kind k) 0) (λ a. T (has w a) ⊎ (T (has ranks (2 * k)) × T (has first a)))) (lead-kept k) (gained brings (leadPlace kind k) (has ranks (2 * k)) (lead-at k l));
     other-row = λ other o x t l. other-kept (linkPlace other t) (row-no-lead other o t l) (λ e. x (omega arith)) (λ (b, y, e). let q : b < 64 = has-lt 64 over b fits y in x (omega arith));
-    other-lead = λ other o x k l. other-kept (leadPlace other k) (λ (b, y, (_, e)). x (omega arith)) (lead-not-mine other k) (lead-no-row other k)
+    other-lead = λ other o x k l. other-kept (leadPlace other k) (λ (b, y, (_, e)). x (omega arith)) (lead-not-mine other k) (lead-no-row other k);
   }

@@ -87,7 +87,7 @@ pub joined-more : {P Q : ℕ → Type 0} {gain : Set} {before after : List ℕ} 
 joined-more {P} {Q} {gain} {before} {after} h i l not is {word} e = record {
   long = length-set after i word ∙ h .long;
   gains = λ j q. gain-at j (is j .0 q) (ℕ-discrete j i);
-  stays = λ j n. getD-set-other after i j word 0 (λ x. n (is j .1 (inr x))) ∙ h .stays j (λ p. n (is j .1 (inl p)))
+  stays = λ j n. getD-set-other after i j word 0 (λ x. n (is j .1 (inr x))) ∙ h .stays j (λ p. n (is j .1 (inl p)));
 }
   where
     here : getD (set after i word) i 0 ≡ union (getD before i 0) gain

@@ -111,7 +111,7 @@ kind-stays : (s : Store) (kind other me : ℕ) (first into over ranks : Set) (n 
     → AddedKind kind me first into over ranks n before grown → KeepsKind other s before → KeepsKind other s grown
 kind-stays s kind other me first into over ranks n before grown few l d a h = record {
   steps = λ t b. subst (λ (w : ℕ). IsSet w (λ x. Step other s x t)) (sym (a .other-row other l d t b)) (h .steps t b);
-  leads = λ k b. subst (λ (w : ℕ). IsSet w (λ x. (r : ℕ) × ReadKey s k r × FirstLink other s x r)) (sym (a .other-lead other l d k (omega arith))) (h .leads k b)
+  leads = λ k b. subst (λ (w : ℕ). IsSet w (λ x. (r : ℕ) × ReadKey s k r × FirstLink other s x r)) (sym (a .other-lead other l d k (omega arith))) (h .leads k b);
 }
 
 -- both kinds
@@ -124,7 +124,7 @@ pub links-added : (me : CommitNumber) (so sources earlier over ranks : Set) (n :
 links-added me so sources earlier over ranks n before mid grown {first} {into} few e f a b s u c values m g q o is-so is-sources is-earlier is-over h = record {
   room = b .long ∙ a .long ∙ h .room;
   steps = λ kind l. (kept kind l) .steps;
-  leads = λ kind l. (kept kind l) .leads
+  leads = λ kind l. (kept kind l) .leads;
 }
   where
     is-first : IsSet first (SessionOrReadSource s u c)

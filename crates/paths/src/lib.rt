@@ -77,7 +77,16 @@ fn bring(links: &mut [u64], kind: usize, ranks: u64, n: usize, first: u64)
 
 // The links of one kind with the commit `me`: `into` are the commits from which a link leads to it, `first` those from which a link does that
 // RW may follow.
-fn add_kind(links: &mut [u64], kind: usize, me: usize, first: u64, into: u64, over: u64, ranks: u64, n: usize)
+fn add_kind(
+    links: &mut [u64],
+    kind: usize,
+    me: usize,
+    first: u64,
+    into: u64,
+    over: u64,
+    ranks: u64,
+    n: usize,
+)
     requires { ⌜ (length (now links) ≡ 160) × (kind < 2) × (me < 64) × (n ≤ 16) ⌝ }
     ensures { λ _. ⌜ AddedKind kind me first into over ranks n (now (links .entry)) (now (links .exit)) ⌝ }
 {
@@ -89,15 +98,22 @@ fn add_kind(links: &mut [u64], kind: usize, me: usize, first: u64, into: u64, ov
 
 // The links with the commit `me`, whose operations have the given ranks, on keys below n: SO leads to it from `so`, WR from `sources` and WW from
 // `earlier`, and RW leads from it to `over`.
-pub fn add(links: &mut [u64], me: usize, so: u64, sources: u64, earlier: u64, over: u64, ranks: u64, n: usize)
+pub fn add(
+    links: &mut [u64],
+    me: usize,
+    so: u64,
+    sources: u64,
+    earlier: u64,
+    over: u64,
+    ranks: u64,
+    n: usize,
+)
     requires { ⌜ (length (now links) ≡ 160) × (me < 64) × (n ≤ 16) ⌝ }
-    ensures {
-        λ _. ⌜
-            ((s : Store) (u : View) (c : Commit) (values : List ℕ) → Made s u c → nextNumber s ≡ me → s .keys ≡ n → KeepsOperations c ranks values
-                → IsSet so (FromSession s c) → IsSet sources (FromRead s u c) → IsSet earlier (FromWrite s c) → IsSet over (ToLater s u c)
-                → KeepsLinks s (now (links .entry)) → KeepsLinks (update s u c) (now (links .exit)))
-        ⌝
-    }
+    ensures { λ _. ⌜
+        ((s : Store) (u : View) (c : Commit) (values : List ℕ) → Made s u c → nextNumber s ≡ me → s .keys ≡ n → KeepsOperations c ranks values
+        → IsSet so (FromSession s c) → IsSet sources (FromRead s u c) → IsSet earlier (FromWrite s c) → IsSet over (ToLater s u c)
+        → KeepsLinks s (now (links .entry)) → KeepsLinks (update s u c) (now (links .exit)))
+        ⌝ }
 {
     let first = sets::union(so, sources);
     let into = sets::union(first, earlier);

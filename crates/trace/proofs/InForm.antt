@@ -1,26 +1,26 @@
 -- The form of a file, one record at a time: what the records that are left come to, all records come to. Assumes nothing.
-use Prim.Native.Nat.{ℕ, zero, suc, _+_, _-_, _≤_, _<_}
+use Prim.Native.Nat.{ℕ, suc, _+_, _-_, _≤_, _<_}
 use mathlib.Core.Path.{_≡_, refl, sym, ap, _∙_, subst}
 use mathlib.Core.Bool.{true}
 use mathlib.Core.Logic.{_≢_}
 use mathlib.Core.List.{List, [], _∷_}
 use native.Mathlib.Omega.{arith}
 use native.Mathlib.Numerals.{add-one}
-use lib.Dec.{T, ltb, leb, eqb, ltb→lt, T-not}
+use lib.Dec.{ltb, leb, eqb, ltb→lt, leb→le}
 use lib.ListN.{length}
 use borrow.Author.Tests.{le-leb, lt-leb, eq-eqb, ne-eqb}
 use Rattle.search.specs.Choose.{need}
-use Rattle.search.proofs.Choose.{choose-ind}
+use Rattle.search.proofs.Choose.{choose-ind, need-taken}
 use Rattle.search.proofs.Steps.{need-met, need-unmet}
 use Rattle.search.proofs.Tests.{true-T, lt-is, not-is}
 use Rattle.endian.specs.Endian.{Bytes, leAt}
 use Rattle.store.specs.Limits.{maxCommits, minBytes, maxBytes}
-use Rattle.store.specs.Store.{Event, shift, commit}
+use Rattle.store.specs.Store.{Event}
 use Rattle.store.specs.Refusal.{Refusal, refuse}
 use Rattle.trace.specs.Result.{Result, refused, taken, onTaken}
 use Rattle.trace.specs.Format as Format
 use Rattle.trace.specs.Format.{misshapen, whole, recordAt, commitsWith, onRecord, eventsFrom, headerAt, withinLimits, decode}
-use Rattle.trace.specs.Meaning.{whyNumber, meaning, stepOf, headerOf, RecordsSay, WholeFile, FormSays}
+use Rattle.trace.specs.Meaning.{meaning, stepOf, headerOf, AllRecordsSay, FormSays}
 use Rattle.trace.specs.declared.records.Record.{Record}
 use Rattle.trace.specs.declared.records.Record.the-variants.{Shift, Commit, Refused}
 use Rattle.trace.specs.declared.form.Header.{Header}
@@ -96,7 +96,7 @@ module _ (s : List ℕ) (h : Format.Header) (at index commits left : ℕ) (few :
         subst (ReadAt s h at) is (record-read s bytes h at) .2,
         fits,
         subst (λ n. Follows (eventsFrom s h (left - 1) next (index + 1) count) (eventsFrom s h n at index commits)) (sym (one-more some))
-        (rw (add-one index, ← counted) rest),
+            (rw (add-one index, ← counted) rest),
       )
 
   -- it was refused
@@ -114,6 +114,58 @@ module _ (s : List ℕ) (h : Format.Header) (at index commits left : ℕ) (none 
   unfolding eventsFrom
   bytes-left e = rw none (sym (need-unmet _ _ _ (ne-eqb _ _ e)))
 
+-- ---- records that were read once, read again
+
+not-taken : {A : Type 0} {r : Refusal} {a : A} → refused r ≢ taken a
+not-taken e = let z : _≡_ {A = ℕ} 0 1 = cc in absurd (omega arith)
+
+taken-injective : {A : Type 0} {a b : A} → _≡_ {A = Result A} (taken a) (taken b) → a ≡ b
+taken-injective e = cc
+
+onTaken-taken : {A B : Type 0} (x : Result A) (f : A → Result B) {b : B} → onTaken x f ≡ taken b → (a : A) × (x ≡ taken a) × (f a ≡ taken b)
+unfolding onTaken
+onTaken-taken (refused r) f e = absurd (not-taken e)
+onTaken-taken (taken a) f e = (a, refl, e)
+
+onRecord-taken : {A : Type 0} (x : Format.Record) (n commits : ℕ) (f : Event → ℕ → ℕ → Result A) {a : A} → onRecord x n commits f ≡ taken a
+    → (e : Event) × (next : ℕ) × (x ≡ whole e next) × (commitsWith e commits ≤ maxCommits) × (f e next (commitsWith e commits) ≡ taken a)
+unfolding onRecord
+onRecord-taken (misshapen code) n commits f e = absurd (not-taken e)
+onRecord-taken (whole event next) n commits f e =
+    let (few, rest) = need-taken (leb (commitsWith event commits) maxCommits) _ _ not-taken e in (event, next, refl, leb→le _ _ few, rest)
+
+-- the first of the records es, which the answer r stands for, and the others
+pub record First (s : List ℕ) (h : Format.Header) (index commits left : ℕ) (r : Record) (es : List Event) : Type 0 where
+  pub event : Event
+  pub next : ℕ
+  pub others : List Event
+  pub is-first : es ≡ event ∷ others
+  pub read : meaning s (h .keys) r ≡ whole event next
+  pub few-commits : commitsWith event commits ≤ maxCommits
+  pub others-read : eventsFrom s h (left - 1) next (index + 1) (commitsWith event commits) ≡ taken others
+
+module _ (s : List ℕ) (h : Format.Header) (at index commits left : ℕ) (r : Record) (means : meaning s (h .keys) r ≡ recordAt s h at) where
+  first-of : {es : List Event} (event : Event) (next : ℕ) (others : List Event) → recordAt s h at ≡ whole event next → commitsWith event commits ≤ maxCommits
+      → eventsFrom s h (left - 1) next (suc index) (commitsWith event commits) ≡ taken others → taken (event ∷ others) ≡ taken es
+      → First s h index commits left r es
+  first-of event next others is few others-read all = record {
+    event = event;
+    next = next;
+    others = others;
+    is-first = sym (taken-injective all);
+    read = means ∙ is;
+    few-commits = few;
+    others-read = rw (add-one index) others-read;
+  }
+
+  pub events-first : {es : List Event} → 0 < left → eventsFrom s h left at index commits ≡ taken es → First s h index commits left r es
+  unfolding eventsFrom
+  events-first some read =
+      let more : left ≡ suc (left - 1) = omega arith in
+      let (event, next, is, few, rest) = onRecord-taken (recordAt s h at) index commits _ (ap (λ n. eventsFrom s h n at index commits) (sym more) ∙ read) in
+      let (others, others-read, all) = onTaken-taken (eventsFrom s h (left - 1) next (suc index) (commitsWith event commits)) _ rest in
+      first-of event next others is few others-read all
+
 -- ---- the file
 
 -- the header, by what was read of it
@@ -129,6 +181,7 @@ pub record Taken (s : List ℕ) (h : Header) : Type 0 where
   pub size : eqb (leAt s 4 2) 8 ≡ true
   pub kind : eqb (leAt s 6 2) 1 ≡ true
   pub limits : withinLimits (headerOf h) ≡ true
+  pub few-records : h .records < 65536
   pub is-header : headerOf h ≡ headerAt s
 
 -- then the file is what its records are
@@ -146,8 +199,8 @@ decode-records s h t =
     (ap (λ (g : Format.Header). onTaken (eventsFrom s g (g .records) minBytes 1 0) (λ es. taken (record { keys = g .keys; clients = g .clients; events = es }))) (t .is-header))))))))
 
 -- and the answer about the records is one about the file
-pub form-says : {s : List ℕ} {h : Header} (r : Form) → RecordsSay s h r → Taken s h → FormSays s r
-unfolding RecordsSay FormSays onTaken
+pub form-says : {s : List ℕ} {h : Header} (r : Form) → AllRecordsSay s h r → Taken s h → FormSays s r
+unfolding AllRecordsSay FormSays onTaken
 form-says {s} {h} (Misshapen code n) e t = decode-records s h t ∙ rw e refl
 form-says {s} {h} (Whole g) said t =
     let (some-key, few-keys, some-client, few-clients) = withinLimits-is (headerOf h) .0 (true-T _ (t .limits)) in
@@ -156,6 +209,7 @@ form-says {s} {h} (Whole g) said t =
       few-keys = few-keys;
       some-client = some-client;
       few-clients = few-clients;
+      few-records = t .few-records;
       events = said .1;
       read = said .2;
       decoded = decode-records s h t ∙ rw (said .2) refl;

@@ -152,8 +152,8 @@ module _ {s : List ℕ} {start keys m i ranks : ℕ} {before values : List ℕ} 
       let place : start + 8 * i + 8 ≡ start + 8 * (i + 1) = omega arith in record {
         by-rank = next-by-rank long;
         kept = λ q out.
-          getD-set-other values (rankAt s at) q (leAt s (at + 4) 4) 0 (λ e. out (rw e (insert-self (rankAt s at) ranks)))
-          ∙ h .kept q (λ t. out (has-insert (rankAt s at) ranks q t));
+            getD-set-other values (rankAt s at) q (leAt s (at + 4) 4) 0 (λ e. out (rw e (insert-self (rankAt s at) ranks)))
+            ∙ h .kept q (λ t. out (has-insert (rankAt s at) ranks q t));
         low = suc (rankAt s at);
         ranks-below = λ r t. ⊎-elim (λ old. let below = h .ranks-below r old in omega arith) (λ e. omega arith) (insert-has (rankAt s at) ranks r t);
         others-fit = ap (λ p. operationsFit s p keys (suc (rankAt s at)) (m - (i + 1))) (sym place) ∙ T-true _ (next-and-others .1);

@@ -35,12 +35,12 @@ pub operationFits-order : (s : List ℕ) (at keys low : ℕ) → leAt s at 1 ≤
 unfolding operationFits
 operationFits-order s at keys low access key zeros = rw (le-leb _ _ access, lt-ltb _ _ key, eq-eqb _ _ zeros)
 
--- operations in turn: the first fits, and the others are tested from its rank on
-pub operationsFit-next : (s : List ℕ) (at keys low left : ℕ) → 0 < left → operationFits s at keys low ≡ true
-    → operationsFit s at keys low left ≡ operationsFit s (at + 8) keys (rankAt s at + 1) (left - 1)
+-- operations in turn: the first fits, and the others are tested from above its rank
+pub operationsFit-next : (s : List ℕ) (at keys low left : ℕ) {above : ℕ} → 0 < left → operationFits s at keys low ≡ true → above ≡ rankAt s at + 1
+    → operationsFit s at keys low left ≡ operationsFit s (at + 8) keys above (left - 1)
 unfolding operationsFit
-operationsFit-next s at keys low zero some e = absurd (omega arith)
-operationsFit-next s at keys low (suc n) some e = let others : suc n - 1 ≡ n = omega arith in rw (e, add-one (rankAt s at), others)
+operationsFit-next s at keys low zero some e a = absurd (omega arith)
+operationsFit-next s at keys low (suc n) some e a = let others : suc n - 1 ≡ n = omega arith in rw (e, a, add-one (rankAt s at), others)
 
 -- the first does not
 pub operationsFit-stop : (s : List ℕ) (at keys low left : ℕ) → 0 < left → operationFits s at keys low ≡ false → operationsFit s at keys low left ≡ false

@@ -4,7 +4,8 @@ ghost use Prim.Native.Nat.{_≤_, _<_};
 ghost use lib.ListN.{length};
 ghost use Rattle.store.specs.Limits.{maxKeys, minBytes};
 ghost use Rattle.trace.specs.Format.{withinLimits};
-ghost use Rattle.trace.specs.Meaning.{stepOf, stopCode, headerOf, RecordsSay, FormSays};
+ghost use Rattle.trace.specs.Meaning.{stepOf, stopCode, headerOf, AllRecordsSay, FormSays};
+use crate::reader;
 use crate::records;
 use crate::records::Record;
 
@@ -45,7 +46,7 @@ fn step_of(r: Record, commits: usize) -> Step
             masks: _,
             next,
         } => {
-            if store::Limits::COMMITS <= commits {
+            if store::Store::COMMITS <= commits {
                 return Step::Stop(8);
             }
             Step::Next {
@@ -67,18 +68,22 @@ fn stop_code(t: Step) -> usize
     }
 }
 
-// "form over all records in turn", then code 5: "bytes left after the counted records".
+// "form over all records in turn", each read whole or the file refused there, then code 5: "bytes left after the counted records".
 fn records_form(s: &[u8], h: Header) -> Form
     requires { ⌜ (minBytes ≤ length (now s)) × (h .keys ≤ maxKeys) × (h .records < 65536) ⌝ }
-    ensures { λ r. ⌜ RecordsSay (now (s .entry)) h r ⌝ }
+    ensures { λ r. ⌜ AllRecordsSay (now (s .entry)) h r ⌝ }
 {
-    let mut at = store::Limits::HEADER;
+    let mut at = store::Store::HEADER;
     let mut index: usize = 1;
     let mut commits: usize = 0;
     let mut left = h.records;
     while 0 < left {
-        let step = step_of(records::record_at(s, at, h.keys, h.clients), commits);
-        let Step::Next { at: next, commits: count } = step else {
+        let step = step_of(reader::record_from(s, at, h.keys, h.clients), commits);
+        let Step::Next {
+            at: next,
+            commits: count,
+        } = step
+        else {
             return Form::Misshapen {
                 code: stop_code(step),
                 record: index,
@@ -105,13 +110,13 @@ fn within_limits(h: Header) -> bool
     if h.keys == 0 {
         return false;
     }
-    if store::Limits::KEYS < h.keys {
+    if store::Store::KEYS < h.keys {
         return false;
     }
     if h.clients == 0 {
         return false;
     }
-    h.clients <= store::Limits::CLIENTS
+    h.clients <= store::Store::CLIENTS
 }
 
 // The form of a file: nothing is asked of its bytes.
@@ -119,10 +124,10 @@ pub fn form_of(s: &[u8]) -> Form
     ensures { λ r. ⌜ FormSays (now (s .entry)) r ⌝ }
 {
     let len = s.len();
-    if len < store::Limits::HEADER {
+    if len < store::Store::HEADER {
         return Form::Misshapen { code: 1, record: 0 };
     }
-    if store::Limits::BYTES < len {
+    if store::Store::BYTES < len {
         return Form::Misshapen { code: 1, record: 0 };
     }
     if endian::u32_at(s, 0) as usize != len {

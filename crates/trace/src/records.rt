@@ -1,11 +1,11 @@
 // "A record is either read whole or the file is refused there" (01, The trace file). Within a record the checks come in the order
 // of "Bench codes": "4 bytes left, kind 4, rest of 3, then 6, 7".
 ghost use mathlib.Core.Path.{_≡_};
-ghost use Prim.Native.Nat.{ℕ, _+_, _*_, _≤_, _<_};
+ghost use Prim.Native.Nat.{_+_, _*_, _≤_, _<_};
 ghost use lib.ListN.{length};
 ghost use Rattle.store.specs.Limits.{maxKeys};
-ghost use Rattle.trace.specs.Format.{operationFits, operationsFit, shiftAt, commitOf, commitAt, recordAt};
-ghost use Rattle.trace.specs.Meaning.{whyNumber, meaning};
+ghost use Rattle.trace.specs.Format.{operationFits, operationsFit, shiftAt, commitOf, commitAt};
+ghost use Rattle.trace.specs.Meaning.{whyNumber, Answers, RecordSays};
 
 // Why a record is refused; whyNumber gives the code.
 pub enum Why {
@@ -88,7 +88,7 @@ fn operations_fit(s: &[u8], start: usize, keys: usize, m: usize) -> bool
 // "Kind 2, view shift, length 6 + 8K for K keys: client u8, zero u8, K view masks u64."
 fn shift_at(s: &[u8], at: usize, keys: usize, clients: usize) -> Record
     requires { ⌜ (at + 4 ≤ length (now s)) × (keys ≤ maxKeys) ⌝ }
-    ensures { λ r. ⌜ ((n : ℕ) → meaning (now (s .entry)) keys r ≡ shiftAt (now (s .entry)) (record { keys = keys; clients = clients; records = n }) at) ⌝ }
+    ensures { λ r. ⌜ Answers (now (s .entry)) keys clients (λ h. shiftAt (now (s .entry)) h at) r ⌝ }
 {
     let size = 6 + 8 * keys;
     if endian::u16_at(s, at) as usize != size {
@@ -114,7 +114,7 @@ fn shift_at(s: &[u8], at: usize, keys: usize, clients: usize) -> Record
 // A commit of m operations: what is tested of it once m is read.
 fn commit_of(s: &[u8], at: usize, keys: usize, clients: usize, m: usize) -> Record
     requires { ⌜ (at + 6 ≤ length (now s)) × (keys ≤ maxKeys) × (m < 256) ⌝ }
-    ensures { λ r. ⌜ ((n : ℕ) → meaning (now (s .entry)) keys r ≡ commitOf (now (s .entry)) (record { keys = keys; clients = clients; records = n }) at m) ⌝ }
+    ensures { λ r. ⌜ Answers (now (s .entry)) keys clients (λ h. commitOf (now (s .entry)) h at m) r ⌝ }
 {
     let size = 10 + 8 * m + 8 * keys;
     if endian::u16_at(s, at) as usize != size {
@@ -144,7 +144,7 @@ fn commit_of(s: &[u8], at: usize, keys: usize, clients: usize, m: usize) -> Reco
 // "Kind 3, commit, length 10 + 8m + 8K: client u8, m u8, session number u32, m operations, K masks of the view after the commit."
 fn commit_at(s: &[u8], at: usize, keys: usize, clients: usize) -> Record
     requires { ⌜ (at + 4 ≤ length (now s)) × (keys ≤ maxKeys) ⌝ }
-    ensures { λ r. ⌜ ((n : ℕ) → meaning (now (s .entry)) keys r ≡ commitAt (now (s .entry)) (record { keys = keys; clients = clients; records = n }) at) ⌝ }
+    ensures { λ r. ⌜ Answers (now (s .entry)) keys clients (λ h. commitAt (now (s .entry)) h at) r ⌝ }
 {
     if s.len() <= at + 5 {
         return Record::Refused(Why::Length);
@@ -155,7 +155,7 @@ fn commit_at(s: &[u8], at: usize, keys: usize, clients: usize) -> Record
 // The record at a place of the file.
 pub fn record_at(s: &[u8], at: usize, keys: usize, clients: usize) -> Record
     requires { ⌜ (at ≤ length (now s)) × (keys ≤ maxKeys) ⌝ }
-    ensures { λ r. ⌜ ((n : ℕ) → meaning (now (s .entry)) keys r ≡ recordAt (now (s .entry)) (record { keys = keys; clients = clients; records = n }) at) ⌝ }
+    ensures { λ r. ⌜ RecordSays (now (s .entry)) at keys clients r ⌝ }
 {
     if s.len() < at + 4 {
         return Record::Refused(Why::Length);

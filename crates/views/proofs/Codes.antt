@@ -5,13 +5,13 @@ use mathlib.Core.Bool.{Bool, true, false, not, _&&_, _||_}
 use mathlib.Core.Logic.{_⊎_, _↔_, _≢_, inl, inr}
 use mathlib.Core.Option.{Option, some, none}
 use native.Mathlib.Omega.{arith}
-use native.Mathlib.Decide.{ℕ-discrete, decLe}
+use native.Mathlib.Decide.{decLe, decLt}
 use mathlib.Core.List.{List}
 use lib.Dec.{T, eqb, leb, T-not, not-T}
 use borrow.Author.Tests.{eq-eqb, ne-eqb}
 use Rattle.search.specs.Choose.{isSome}
 use Rattle.search.specs.Search.{any, least}
-use Rattle.search.proofs.Tests.{same, and-is, le-is, or-left, or-right, or-cases}
+use Rattle.search.proofs.Tests.{stable, same, and-is, le-is, or-left, or-right, or-cases}
 use Rattle.search.proofs.Search.{any-is, least-none, least-found}
 use Rattle.sets.specs.Set.{has, below, lowest, without, width}
 use Rattle.sets.proofs.Laws.{has-lt, has-below, below-has, has-lowest}
@@ -67,6 +67,18 @@ module _ (s : Store) (u : View) (k : Key) where
           let l : y .0 < count s k = below-has (count s k) (y .0) (rw f at (subset-is mask full .0 z (y .0) (rw e (y .2 .0)))) in
           let g : count s k ≤ y .0 = y .2 .1 in
           omega arith
+
+  -- what a good mask holds
+  not-bad : u k < 2 ^ 64 → ¬ T (badMaskAt s u k) → T (has (u k) 0) × ((i : ℕ) → T (has (u k) i) → i < count s k)
+  not-bad w n = (stable (has (u k) 0) (λ x. n (lacks-first refl x)), λ i b. go i b (decLt i (count s k)))
+    where
+      go : (i : ℕ) → T (has (u k) i) → Dec (i < count s k) → i < count s k
+      go i b (yes l) = l
+      go i b (no m) = absurd (n (or-right (not (has (u k) 0)) _ (outside .1 (i, has-lt 64 (u k) i w b, (b, omega arith)))))
+
+pub mask-holds : (s : Store) (u : View) → badMask s u ≡ none → (k : Key) → k < s .keys → u k < 2 ^ 64 → T (has (u k) 0) × ((i : ℕ) → T (has (u k) i) → i < count s k)
+unfolding badMask
+mask-holds s u e k l w = not-bad s u k w (least-none (s .keys) (badMaskAt s u) .0 e k l)
 
 module _ (s : Store) (u : View) (n : ℕ) (e : s .keys ≡ n) where
   pub bad-at : (k : Key) → k < n → T (badMaskAt s u k) → ((l : Key) → l < k → ¬ T (badMaskAt s u l)) → some k ≡ badMask s u

@@ -3,4 +3,8 @@ pub mod Codes
 pub mod Looking
 pub mod Words
 pub mod Own
+pub mod Gathered
+pub mod Agree
+pub mod Grown
+pub mod OpeningView
 pub mod Rows

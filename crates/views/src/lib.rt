@@ -2,3 +2,10 @@
 // clause misses, and the commits of which a view holds a version. The arrays are described in crates/state/specs.
 pub mod masks;
 pub mod missing;
+pub mod held;
+
+// The commits of which the masks hold a version; or the first version that they lack by a commit of which they hold another.
+pub enum Viewed {
+    Holds(u64),
+    Half(state::Key, state::VersionNumber),
+}

@@ -57,11 +57,13 @@ loop-less c = search needs
 
 loop-again : tie.Need-loop-again Inv-loop μ-loop
 loop-again c =
-    let l = c .before .before .before .loop in
-    (omega arith, ⊎-elim
-    (λ w. rw (w .3) (joined-more (l .inv .1) _ (omega (arith, l .inv .1 .long)) (lead-apart _ _ _) (lead-taken _ _ _ (true-T _ (sym (c .before .has .ensures) ∙ w .0 .taken))) (w .2 .ensures)))
-    (λ w. rw (w .1) (joined-as (lead-left _ _ _ (failed _ (sym (c .before .has .ensures) ∙ w .0 .left))) (l .inv .1)))
-    (c .if1 .came))
+    let l = c .before .before .before .loop in (
+      omega arith,
+      ⊎-elim
+          (λ w. rw (w .3) (joined-more (l .inv .1) _ (omega (arith, l .inv .1 .long)) (lead-apart _ _ _) (lead-taken _ _ _ (true-T _ (sym (c .before .has .ensures) ∙ w .0 .taken))) (w .2 .ensures)))
+          (λ w. rw (w .1) (joined-as (lead-left _ _ _ (failed _ (sym (c .before .has .ensures) ∙ w .0 .left))) (l .inv .1)))
+          (c .if1 .came),
+    )
 
 same-length : tie.Need-same-length Inv-loop μ-loop
 same-length c = search needs

@@ -56,11 +56,13 @@ loop-less c = search needs
 loop-again : tie.Need-loop-again Inv-loop μ-loop
 loop-again c =
     let a = c .before .before .before .before .before .args in
-    let l = c .before .before .before .loop in
-    (omega arith, ⊎-elim
-    (λ w. brought-taken (a .kind) (a .links .now) (a .ranks) _ _ (l .inv .1) (true-T _ (sym (c .before .has .ensures) ∙ w .0 .taken)) (w .3 ∙ w .2 .ensures))
-    (λ w. rw (w .1) (brought-left (a .kind) (a .links .now) (a .ranks) _ _ (l .inv .1) (failed _ (sym (c .before .has .ensures) ∙ w .0 .left))))
-    (c .if1 .came))
+    let l = c .before .before .before .loop in (
+      omega arith,
+      ⊎-elim
+          (λ w. brought-taken (a .kind) (a .links .now) (a .ranks) _ _ (l .inv .1) (true-T _ (sym (c .before .has .ensures) ∙ w .0 .taken)) (w .3 ∙ w .2 .ensures))
+          (λ w. rw (w .1) (brought-left (a .kind) (a .links .now) (a .ranks) _ _ (l .inv .1) (failed _ (sym (c .before .has .ensures) ∙ w .0 .left))))
+          (c .if1 .came),
+    )
 
 returns : tie.Need-returns Inv-loop μ-loop
 returns c = let e : c .before .loop .k ≡ c .before .before .before .args .n = omega arith in rw (← e) (c .before .loop .inv .1)

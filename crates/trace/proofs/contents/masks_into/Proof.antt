@@ -4,7 +4,7 @@ use borrow.Author.Needs.{needs}
 use Prim.Native.Nat.{_+_, _-_, _*_, _≤_}
 use mathlib.Core.Path.{ap}
 use native.Mathlib.Omega.{arith}
-use lib.ListN.{length, set}
+use lib.ListN.{set}
 use Rattle.endian.specs.Endian.{leAt}
 use Rattle.trace.proofs.Filled.{Filled, filled-none, filled-more}
 use Rattle.trace.proofs.contents.masks_into.Statement.{statement}

@@ -1,13 +1,13 @@
 -- `trace::contents::sort_operations` meets its contract: the operations passed are sorted, and the others fit. Assumes nothing.
 use Rattle.store.specs.Limits.{maxKeys}
 use borrow.Author.Needs.{needs}
-use Prim.Native.Nat.{ℕ, _+_, _-_, _*_, _^_, _≤_, _<_}
-use mathlib.Core.Path.{_≡_, refl, ap, _∙_}
+use Prim.Native.Nat.{ℕ, _-_, _≤_}
+use mathlib.Core.Path.{_≡_, refl, _∙_}
 use mathlib.Core.Bool.{true}
 use native.Mathlib.Omega.{arith}
 use lib.ListN.{length, length-set}
 use Rattle.trace.specs.Format.{operationsFit}
-use Rattle.trace.proofs.Ranks.{Sorted, sorted-none, next-fits, sorted-more, sorted-turn}
+use Rattle.trace.proofs.Ranks.{Sorted, sorted-none, next-fits, sorted-turn}
 use Rattle.trace.proofs.contents.sort_operations.Statement.{statement}
 use Rattle.trace.proofs.contents.sort_operations.Tie as tie
 
@@ -79,8 +79,7 @@ loop-less c = search needs
 loop-again : tie.Need-loop-again Inv-loop μ-loop
 loop-again c =
     let l = c .before .before .before .before .loop in
-    let start = c .before .before .before .before .before .before .before in
-    (
+    let start = c .before .before .before .before .before .before .before in (
       omega arith,
       length-set (l .values) _ _ ∙ l .inv .1,
       λ keys few fit. sorted-turn (l .inv .2 keys few fit) (omega arith) few (omega arith) (omega arith) (c .u32-at .ensures),

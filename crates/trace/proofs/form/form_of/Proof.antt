@@ -74,6 +74,7 @@ returns-6 c =
       size = omega tests;
       kind = omega tests;
       limits = sym (c .before .before .within-limits .ensures) ∙ c .before .if6 .taken;
+      few-records = omega arith;
       is-header = is-headerAt (now (c .before .before .before .before .before .before .before .before .before .before .before .before .before .before .before .args .s)) _ _ _ (c .before .before .before .before .before .byte-at .ensures .0) (c .before .before .before .before .byte-at2 .ensures .0) (c .before .before .before .u16-at3 .ensures);
     })
 

@@ -1,7 +1,8 @@
 -- `trace::records::commit_of` meets its contract: the tests are those of commitOf, in their order. Assumes nothing.
+use native.Mathlib.Omega.{arith}
 use Rattle.trace.specs.Format.{commitOf}
 use Rattle.search.proofs.Steps.{need-met, need-unmet, tests}
-use Rattle.trace.specs.Meaning.{meaning}
+use Rattle.trace.specs.Meaning.{meaning, PlacesFit}
 use borrow.Author.Needs.{needs}
 use Rattle.trace.proofs.records.commit_of.Statement.{statement}
 use Rattle.trace.proofs.records.commit_of.Tie as tie
@@ -25,15 +26,15 @@ cast-if1 : tie.Need-cast-if1
 cast-if1 c = search needs
 
 returns : tie.Need-returns
-unfolding commitOf meaning
-returns c n = need-unmet _ _ _ (omega tests)
+unfolding commitOf meaning PlacesFit
+returns c = (λ n. need-unmet _ _ _ (omega tests), tt)
 
 add-if2 : tie.Need-add-if2
 add-if2 c = search needs
 
 returns-2 : tie.Need-returns-2
-unfolding commitOf meaning
-returns-2 c n = need-met _ _ _ (omega tests) (need-unmet _ _ _ (omega tests))
+unfolding commitOf meaning PlacesFit
+returns-2 c = (λ n. need-met _ _ _ (omega tests) (need-unmet _ _ _ (omega tests)), tt)
 
 add-byte-at : tie.Need-add-byte-at
 add-byte-at c = search needs
@@ -42,8 +43,8 @@ byte-at-requires : tie.Need-byte-at-requires
 byte-at-requires c κs = search needs
 
 returns-3 : tie.Need-returns-3
-unfolding commitOf meaning
-returns-3 c n = need-met _ _ _ (omega tests) (need-met _ _ _ (omega tests) (need-unmet _ _ _ (omega tests)))
+unfolding commitOf meaning PlacesFit
+returns-3 c = (λ n. need-met _ _ _ (omega tests) (need-met _ _ _ (omega tests) (need-unmet _ _ _ (omega tests))), tt)
 
 add-operations-fit : tie.Need-add-operations-fit
 add-operations-fit c = search needs
@@ -73,12 +74,12 @@ add-t24 : tie.Need-add-t24
 add-t24 c = search needs
 
 returns-4 : tie.Need-returns-4
-unfolding commitOf meaning
-returns-4 c n = need-met _ _ _ (omega tests) (need-met _ _ _ (omega tests) (need-met _ _ _ (omega tests) (need-met _ _ _ (cc) (cc))))
+unfolding commitOf meaning PlacesFit
+returns-4 c = (λ n. need-met _ _ _ (omega tests) (need-met _ _ _ (omega tests) (need-met _ _ _ (omega tests) (need-met _ _ _ (cc) (cc)))), (omega arith, omega arith, omega arith, cc))
 
 returns-5 : tie.Need-returns-5
-unfolding commitOf meaning
-returns-5 c n = need-met _ _ _ (omega tests) (need-met _ _ _ (omega tests) (need-met _ _ _ (omega tests) (need-unmet _ _ _ (cc))))
+unfolding commitOf meaning PlacesFit
+returns-5 c = (λ n. need-met _ _ _ (omega tests) (need-met _ _ _ (omega tests) (need-met _ _ _ (omega tests) (need-unmet _ _ _ (cc)))), tt)
 
 pub commit-of-spec : {M : Type 1} → statement M
 commit-of-spec =

@@ -1,11 +1,10 @@
 -- `trace::records::operations_fit` meets its contract: what is left to test comes to the whole test. Assumes nothing.
-use Prim.Native.Nat.{_+_, _-_, _*_, _≤_}
+use Prim.Native.Nat.{_+_, _*_, _≤_}
 use borrow.Author.Needs.{needs}
-use mathlib.Core.Path.{_≡_, refl, sym, ap, _∙_}
+use mathlib.Core.Path.{_≡_, refl, sym, _∙_}
 use native.Mathlib.Omega.{arith}
 use lib.ListN.{length}
-use denote.Ref.{now}
-use Rattle.trace.specs.Format.{rankAt, operationsFit}
+use Rattle.trace.specs.Format.{operationsFit}
 use Rattle.trace.proofs.Tests.{operationsFit-next, operationsFit-stop, operationsFit-none}
 use Rattle.trace.proofs.records.operations_fit.Statement.{statement}
 use Rattle.trace.proofs.records.operations_fit.Tie as tie
@@ -52,16 +51,8 @@ loop-less c = search needs
 
 loop-again : tie.Need-loop-again Inv-loop μ-loop
 loop-again c =
-    let l = c .before .before .before .before .before in
-    let a = l .before .before .args in
-    let s = now (a .s) in
-    let rank : rankAt s (l .loop .at) + 1 ≡ 2 * c .before .byte-at .result + c .byte-at2 .result + 1 = omega arith in
-    ( omega arith
-    , omega arith
-    , l .loop .inv .2
-      ∙ operationsFit-next s (l .loop .at) (a .keys) (l .loop .low) (l .loop .left) (omega arith) (cc)
-      ∙ ap (λ k. operationsFit s (l .loop .at + 8) (a .keys) k (l .loop .left - 1)) rank
-    )
+    let l = c .before .before .before .before .before .loop in
+    (omega arith, omega arith, l .inv .2 ∙ operationsFit-next _ _ _ _ _ (omega arith) (cc) (omega arith))
 
 returns : tie.Need-returns Inv-loop μ-loop
 returns c =

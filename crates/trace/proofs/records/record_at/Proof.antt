@@ -2,7 +2,7 @@
 use mathlib.Core.Path.{refl}
 use Rattle.trace.specs.Format.{recordAt}
 use Rattle.search.proofs.Steps.{need-met, need-unmet, choose-first, choose-second, tests}
-use Rattle.trace.specs.Meaning.{meaning}
+use Rattle.trace.specs.Meaning.{meaning, PlacesFit}
 use borrow.Author.Needs.{needs}
 use Rattle.trace.proofs.records.record_at.Statement.{statement}
 use Rattle.trace.proofs.records.record_at.Tie as tie
@@ -11,8 +11,8 @@ add-if1 : tie.Need-add-if1
 add-if1 c = search needs
 
 returns : tie.Need-returns
-unfolding recordAt meaning
-returns c n = need-unmet _ _ _ (omega tests)
+unfolding recordAt meaning PlacesFit
+returns c = (λ n. need-unmet _ _ _ (omega tests), tt)
 
 add-u16-at : tie.Need-add-u16-at
 add-u16-at c = search needs
@@ -25,18 +25,18 @@ shift-at-requires c κs = search needs
 
 returns-2 : tie.Need-returns-2
 unfolding recordAt
-returns-2 c n = need-met _ _ _ (omega tests) (choose-first _ _ _ (omega tests) (c .shift-at .ensures n))
+returns-2 c = (λ n. need-met _ _ _ (omega tests) (choose-first _ _ _ (omega tests) (c .shift-at .ensures .0 n)), c .shift-at .ensures .1)
 
 commit-at-requires : tie.Need-commit-at-requires
 commit-at-requires c κs = search needs
 
 returns-3 : tie.Need-returns-3
 unfolding recordAt
-returns-3 c n = need-met _ _ _ (omega tests) (choose-second _ _ _ (omega tests) (choose-first _ _ _ (omega tests) (c .commit-at .ensures n)))
+returns-3 c = (λ n. need-met _ _ _ (omega tests) (choose-second _ _ _ (omega tests) (choose-first _ _ _ (omega tests) (c .commit-at .ensures .0 n))), c .commit-at .ensures .1)
 
 returns-4 : tie.Need-returns-4
-unfolding recordAt meaning
-returns-4 c n = need-met _ _ _ (omega tests) (choose-second _ _ _ (omega tests) (choose-second _ _ _ (omega tests) refl))
+unfolding recordAt meaning PlacesFit
+returns-4 c = (λ n. need-met _ _ _ (omega tests) (choose-second _ _ _ (omega tests) (choose-second _ _ _ (omega tests) refl)), tt)
 
 pub record-at-spec : {M : Type 1} → statement M
 record-at-spec =

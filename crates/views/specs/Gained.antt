@@ -1,0 +1,32 @@
+-- The commits that wrote versions in a word, as the arrays say it. Assumes nothing.
+use Prim.Native.Nat.{ℕ, _+_, _<_}
+use mathlib.Core.Path.{_≡_}
+use mathlib.Core.List.{List}
+use lib.Dec.{T}
+use lib.ListN.{length, getD}
+use Rattle.sets.specs.Set.{Set, has, without}
+use Rattle.store.specs.Store.{Key, CommitNumber}
+use Rattle.state.specs.Places.{headPlace, writersPlace}
+use Rattle.state.specs.Keeps.{IsSet}
+use Rattle.views.specs.Words.{writerIn}
+
+-- t wrote a version in the set, of key k
+abbrev pub WriterAmong : List ℕ → Key → Set → CommitNumber → Type 0
+WriterAmong versions k set t = (i : ℕ) × T (has set i) × (writerIn (getD versions (headPlace k i) 0) ≡ t)
+
+-- t wrote a version of key k that the masks hold and those at `base` do not
+abbrev pub GainedAt : List ℕ → List ℕ → List ℕ → ℕ → Key → CommitNumber → Type 0
+GainedAt versions fresh masks base k = WriterAmong versions k (without (getD fresh k 0) (getD masks (base + k) 0))
+
+-- each key's gain, and that of all keys below n
+pub record Gains (versions fresh masks : List ℕ) (base n : ℕ) (gain : List ℕ) (all : Set) : Type 0 where
+  pub each : (k : Key) → k < n → IsSet (getD gain k 0) (GainedAt versions fresh masks base k)
+  pub whole : IsSet all (λ t. (k : Key) × (k < n) × GainedAt versions fresh masks base k t)
+
+-- t wrote a version of a key, and has gained none of it
+abbrev pub LackingAt : List ℕ → List ℕ → Key → CommitNumber → Type 0
+LackingAt keys gain k t = T (has (getD keys (writersPlace k) 0) t) × (¬ T (has (getD gain k 0) t))
+
+-- t has gained a version, and lacks one of some key
+abbrev pub HalfGained : List ℕ → List ℕ → ℕ → Set → CommitNumber → Type 0
+HalfGained keys gain n all t = T (has all t) × ((k : Key) × (k < n) × LackingAt keys gain k t)

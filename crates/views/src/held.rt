@@ -1,0 +1,89 @@
+// The commits of which new masks hold a version, found by difference from a view: code 11.
+use crate::Viewed;
+use crate::masks;
+use crate::missing;
+ghost use mathlib.Core.Path.{_≡_};
+ghost use Prim.Native.Nat.{ℕ, _+_, _<_, _≤_};
+ghost use lib.Dec.{T};
+ghost use lib.ListN.{length};
+ghost use Rattle.sets.specs.Set.{has};
+ghost use Rattle.store.specs.Store.{View, Store};
+ghost use Rattle.state.specs.Keeps.{IsSet};
+ghost use Rattle.views.specs.Gained.{WriterAmong, Gains, HalfGained};
+ghost use Rattle.views.specs.Viewed.{ViewedAs, NewMasks};
+
+// The writers of some versions of one key.
+fn writers_of(versions: &[u64], k: usize, set: u64) -> u64
+    requires { ⌜ (k < 16) × (length (now versions) ≡ 2048) ⌝ }
+    ensures { λ r. ⌜ IsSet r (WriterAmong (now (versions .entry)) k set) ⌝ }
+{
+    let mut writers = 0u64;
+    let mut left = set;
+    while left != 0 {
+        let v = sets::lowest(left);
+        writers = sets::insert(writers, missing::writer_of(versions[64 * k + v]));
+        left = sets::rest(left);
+    }
+    writers
+}
+
+// The writers of what the masks hold and those at `base` do not: for each key in `gain`, and all of them.
+fn gained(versions: &[u64], fresh: &[u64], masks: &[u64], base: usize, gain: &mut [u64], n: usize) -> u64
+    requires { ⌜ (n ≤ 16) × (length (now versions) ≡ 2048) × (length (now fresh) ≡ 16) × (base + n ≤ length (now masks)) × (length (now gain) ≡ 16) ⌝ }
+    ensures { λ r. ⌜ (length (now (gain .exit)) ≡ 16) × Gains (now (versions .entry)) (now (fresh .entry)) (now (masks .entry)) base n (now (gain .exit)) r ⌝ }
+{
+    let mut all = 0u64;
+    let mut k: usize = 0;
+    while k < n {
+        let writers = writers_of(versions, k, sets::without(fresh[k], masks[base + k]));
+        gain[k] = writers;
+        all = sets::union(all, writers);
+        k = k + 1;
+    }
+    all
+}
+
+// Of all the commits that gained those that lack a key that they wrote.
+fn half_held(keys: &[u64], gain: &[u64], all: u64, n: usize) -> u64
+    requires { ⌜ (n ≤ 16) × (length (now keys) ≡ 32) × (length (now gain) ≡ 16) ⌝ }
+    ensures { λ r. ⌜ IsSet r (HalfGained (now (keys .entry)) (now (gain .entry)) n all) ⌝ }
+{
+    let mut lacking = 0u64;
+    let mut k: usize = 0;
+    while k < n {
+        lacking = sets::union(lacking, sets::without(keys[16 + k], gain[k]));
+        k = k + 1;
+    }
+    all & lacking
+}
+
+// Masks that hold all of the view at `base`.
+fn grown(versions: &[u64], keys: &[u64], fresh: &[u64], masks: &[u64], base: usize, seen: u64, n: usize) -> Viewed
+    requires { ⌜ (n ≤ 16) × (length (now versions) ≡ 2048) × (length (now keys) ≡ 32) × (length (now fresh) ≡ 16) × (base + n ≤ length (now masks)) ⌝ }
+    ensures { λ r. ⌜ ((s : Store) (old u : View) → NewMasks s old u n (now (versions .entry)) (now (keys .entry)) (now (masks .entry)) base seen (now (fresh .entry)) → ((k i : ℕ) → T (has (old k) i) → T (has (u k) i)) → ViewedAs s u r) ⌝ }
+{
+    let mut gain = [0u64; 16];
+    let all = gained(versions, fresh, masks, base, &mut gain, n);
+    let half = half_held(keys, &gain, all, n);
+    let holds = sets::union(seen, all);
+    if half == 0 {
+        return Viewed::Holds(holds);
+    }
+    match missing::least_by_writer(versions, keys, fresh, 0, half, n) {
+        state::Found::At(k, v) => Viewed::Half(k, v),
+        state::Found::Nothing => Viewed::Holds(holds),
+    }
+}
+
+// Code 11, and the commits of which the masks hold a version: by difference from the client's view at `base`, where the masks hold all of
+// it, and else from the opening view.
+pub fn viewed(versions: &[u64], keys: &[u64], fresh: &[u64], views: &[u64], base: usize, seen: u64, n: usize) -> Viewed
+    requires { ⌜ (1 ≤ n) × (n ≤ 16) × (length (now versions) ≡ 2048) × (length (now keys) ≡ 32) × (length (now fresh) ≡ 16) × (base + n ≤ length (now views)) ⌝ }
+    ensures { λ r. ⌜ ((s : Store) (old u : View) → NewMasks s old u n (now (versions .entry)) (now (keys .entry)) (now (views .entry)) base seen (now (fresh .entry)) → ViewedAs s u r) ⌝ }
+{
+    if let state::Found::Nothing = masks::lost(fresh, views, base, n) {
+        return grown(versions, keys, fresh, views, base, seen, n);
+    }
+    let opening = [1u64; 16];
+    grown(versions, keys, fresh, &opening, 0, 1, n)
+}
