@@ -1,4 +1,3 @@
 pub mod Along
-pub mod Replaced
 pub mod Operating
 pub mod LedBy
