@@ -14,10 +14,10 @@ use Rattle.growth.proofs.Ordered.{Ordered}
 use Rattle.state.specs.Keeps.{IsSet, KeepsMasks, KeepsVersions, KeepsKeys, KeepsViews}
 use Rattle.views.specs.Rules.{StoreAndView}
 use Rattle.trace.specs.Format.{viewAt}
-use Rattle.run.specs.declared.Outcome.{Outcome}
-use Rattle.run.specs.declared.Outcome.the-variants.{Taken, Refused}
-use Rattle.run.specs.declared.Sight.{Sight}
-use Rattle.run.specs.declared.Sight.the-variants.{Holds, Bad, Half}
+use Rattle.shifts.specs.declared.Outcome.{Outcome}
+use Rattle.shifts.specs.declared.Outcome.the-variants.{Taken, Refused}
+use Rattle.shifts.specs.declared.Sight.{Sight}
+use Rattle.shifts.specs.declared.Sight.the-variants.{Holds, Bad, Half}
 
 -- the refusal that an outcome of record n stands for
 abbrev pub outcomeOf : ℕ → Outcome → Option Refusal
@@ -49,3 +49,15 @@ pub record ShiftGiven (g : Configuration) (file : List ℕ) (masks client n : �
   pub in-keys : KeepsKeys (g .store) keys
   pub in-views : KeepsViews g views seen
   pub fits : FitsView n (viewAt file masks n)
+
+-- the same of masks u that stand in an array
+pub record ShiftTo (g : Configuration) (u : View) (client n : ℕ) (versions keys views seen fresh : List ℕ) : Type 0 where
+  pub sound : Sound g
+  pub ordered : Ordered (g .store)
+  pub few : g .store .commits ≤ maxCommits
+  pub keys-are : g .store .keys ≡ n
+  pub in-versions : KeepsVersions (g .store) versions
+  pub in-keys : KeepsKeys (g .store) keys
+  pub in-views : KeepsViews g views seen
+  pub in-fresh : KeepsMasks n u fresh
+  pub fits : FitsView n u

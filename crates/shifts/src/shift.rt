@@ -1,0 +1,69 @@
+// One view shift: "replaces a client's view by one that holds at least as much at every key; an equal one is allowed" (01, Store and
+// views).
+use crate::Outcome;
+use crate::Sight;
+use crate::masks;
+use state::{Found, VersionNumber};
+ghost use Prim.Native.Nat.{ℕ, _+_, _*_, _≤_, _<_};
+ghost use mathlib.Core.Path.{_≡_};
+ghost use lib.ListN.{length};
+ghost use Rattle.store.specs.Store.{View, Configuration, shift};
+ghost use Rattle.store.specs.Update.{step};
+ghost use Rattle.store.specs.Refusal.{refusesEvent};
+ghost use Rattle.state.specs.Keeps.{KeepsViews};
+ghost use Rattle.trace.specs.Format.{viewAt};
+ghost use Rattle.shifts.specs.declared.Outcome.the-variants.{Taken};
+ghost use Rattle.shifts.specs.Outcomes.{outcomeOf, ShiftGiven, ShiftTo};
+
+// Codes 10, 11 and 12 of the masks in `fresh`; where none is due, they become the client's view.
+fn shift_on(client: usize, versions: &[u64], keys: &[u64], views: &mut [u64], seen: &mut [u64], fresh: &[u64], n: usize) -> Outcome
+    requires { ⌜ (1 ≤ n) × (n ≤ 16) × (client < 16) ⌝ }
+    requires { ⌜ (length (now versions) ≡ 2048) × (length (now keys) ≡ 32) × (length (now views) ≡ 256) × (length (now seen) ≡ 16) × (length (now fresh) ≡ 16) ⌝ }
+    ensures answer {
+        λ r. ⌜
+            ((g : Configuration) (u : View) (i : ℕ) → ShiftTo g u client n (now (versions .entry)) (now (keys .entry)) (now (views .entry)) (now (seen .entry)) (now (fresh .entry))
+                → outcomeOf i r ≡ refusesEvent i g (shift client u))
+        ⌝
+    }
+    ensures kept {
+        λ r. ⌜
+            ((g : Configuration) (u : View) → ShiftTo g u client n (now (versions .entry)) (now (keys .entry)) (now (views .entry)) (now (seen .entry)) (now (fresh .entry))
+                → r ≡ Taken → KeepsViews (step g (shift client u)) (now (views .exit)) (now (seen .exit)))
+        ⌝
+    }
+{
+    let base = 16 * client;
+    match masks::sight(versions, keys, fresh, views, base, seen[client], n) {
+        Sight::Bad(k) => Outcome::Refused { code: 10, key: k, version: VersionNumber(0) },
+        Sight::Half(k, v) => Outcome::Refused { code: 11, key: k, version: v },
+        Sight::Holds(m) => {
+            if let Found::At(k, v) = views::masks::lost(fresh, views, base, n) {
+                return Outcome::Refused { code: 12, key: k, version: v };
+            }
+            views::masks::keep(views, base, fresh, n);
+            seen[client] = m;
+            Outcome::Taken
+        }
+    }
+}
+
+// Codes 10, 11 and 12 of the masks at a place of the file, which are read into `fresh`; where none is due, they become the client's view.
+pub fn shift_to(file: &[u8], masks: usize, client: usize, versions: &[u64], keys: &[u64], views: &mut [u64], seen: &mut [u64], fresh: &mut [u64], n: usize) -> Outcome
+    requires { ⌜ (1 ≤ n) × (n ≤ 16) × (client < 16) × (masks + 8 * n ≤ length (now file)) ⌝ }
+    requires { ⌜ (length (now versions) ≡ 2048) × (length (now keys) ≡ 32) × (length (now views) ≡ 256) × (length (now seen) ≡ 16) × (length (now fresh) ≡ 16) ⌝ }
+    ensures answer {
+        λ r. ⌜
+            ((g : Configuration) (i : ℕ) → ShiftGiven g (now (file .entry)) masks client n (now (versions .entry)) (now (keys .entry)) (now (views .entry)) (now (seen .entry))
+                → outcomeOf i r ≡ refusesEvent i g (shift client (viewAt (now (file .entry)) masks n)))
+        ⌝
+    }
+    ensures kept {
+        λ r. ⌜
+            ((g : Configuration) → ShiftGiven g (now (file .entry)) masks client n (now (versions .entry)) (now (keys .entry)) (now (views .entry)) (now (seen .entry))
+                → r ≡ Taken → KeepsViews (step g (shift client (viewAt (now (file .entry)) masks n))) (now (views .exit)) (now (seen .exit)))
+        ⌝
+    }
+{
+    trace::contents::masks_into(file, masks, fresh, n);
+    shift_on(client, versions, keys, views, seen, fresh, n)
+}
