@@ -1,4 +1,7 @@
 // The call that judges a trace file: it is lent the file in one slice and an image buffer in another, and gives one answer.
+pub mod ending; // ending.rt: the answer for a trace that was run to its end
+pub mod told; // told.rt: the verdicts, from the words in which they are kept
+
 use state::{Key, VersionNumber};
 
 // What a level says of a trace: it accepts, or it is refused at the first commit that fails it.
