@@ -8,6 +8,7 @@
 
 pub mod bench_traces;
 pub mod facts;
+pub mod files;
 pub mod form;
 pub mod generate;
 pub mod image;

@@ -1,0 +1,51 @@
+//! The traces of the bench as files: the name that each has in `examples/` and
+//! in `crates/vectors/data/`, its bytes, and the report that the program
+//! `vectors` must print for all of them.
+
+use crate::bench_traces::{all, BenchTrace};
+use crate::{judge, report};
+
+/// In the order of `bench_traces::all`.
+pub const NAMES: [&str; 16] = [
+    "A-header-only",
+    "B-lost-update",
+    "C-long-fork",
+    "D-write-skew",
+    "E-lost-view",
+    "F-write-without-earlier-write",
+    "G-write-without-what-it-follows",
+    "H-half-of-a-writer",
+    "I-wrong-read",
+    "I-number-twice",
+    "I-number-twice-first-empty",
+    "J-cut-to-79",
+    "J-cut-to-79-first-field-79",
+    "K-63-commits",
+    "K-64-commits",
+    "K-wrong-read-then-kind-9",
+];
+
+/// Each trace with the name of its file.
+pub fn files() -> Vec<(&'static str, BenchTrace)> {
+    let traces = all();
+    assert_eq!(traces.len(), NAMES.len());
+    NAMES.into_iter().zip(traces).collect()
+}
+
+/// One name to a line, as `crates/vectors/args` has them.
+pub fn arguments() -> String {
+    NAMES.iter().map(|name| format!("{name}\n")).collect()
+}
+
+/// For each file its name and then its report.
+pub fn printed() -> String {
+    files()
+        .iter()
+        .map(|(name, bench)| format!("{name}\n{}", report_of(&bench.bytes)))
+        .collect()
+}
+
+/// The report of one file, with an image buffer that is long enough.
+pub fn report_of(file: &[u8]) -> String {
+    report(&judge(file, &mut vec![0; 16_960]))
+}
