@@ -1,0 +1,154 @@
+-- The codes of a commit, case by case. Assumes nothing.
+use Prim.Native.Nat.{ℕ, suc, _+_, _*_, _≤_, _<_}
+use mathlib.Core.Path.{_≡_, refl, sym, ap, _∙_, subst}
+use mathlib.Core.Bool.{Bool, true, false, _&&_}
+use mathlib.Core.Logic.{_⊎_, inl, inr, _↔_}
+use mathlib.Core.Option.{Option, some, none}
+use mathlib.Core.List.{List, [], _∷_}
+use native.Mathlib.Omega.{arith}
+use lib.Dec.{T, eqb, ltb, leb}
+use lib.ListN.{getD}
+use Rattle.search.specs.Choose.{isSome, mapSome, when, orElse, firstSome}
+use Rattle.search.specs.Search.{any}
+use Rattle.search.proofs.Tests.{both, and-is, eq-is, lt-is, le-is, T-true, T-false}
+use Rattle.search.proofs.Search.{any-is}
+use Rattle.dependencies.specs.History as D
+use Rattle.sets.specs.Set.{Set}
+use Rattle.store.specs.Limits.{maxKeys, maxClients, maxCommits}
+use Rattle.store.specs.Store.{View, Store, Configuration, nextNumber, Commit, commit}
+use Rattle.store.specs.Update.{update, viewBefore, storeAfter}
+use Rattle.store.specs.Missing.{Place}
+use Rattle.store.specs.Links.{stored}
+use Rattle.store.specs.Refusal.{Refusal, refuse, refuseKey, refusePlace, notAbove, oldNumber, wrongRead, badMask, halfHeld, stray, refusesEvent}
+use Rattle.store.proofs.Sound.{SoundStore, Sound, Appears, FitsView, view-of-grown-store}
+use Rattle.store.proofs.Legal.{stored-is, appears-lt}
+use Rattle.store.proofs.Links.{history, held, appears-stored}
+use Rattle.growth.proofs.Made.{Made, keys-after, sound-after, number-after}
+use Rattle.growth.proofs.Ordered.{ordered-commit}
+use Rattle.growth.proofs.Views.{holds-kept}
+use Rattle.state.specs.Keeps.{IsSet, CommitOf, KeepsSessions}
+use Rattle.state.proofs.Sets.{isSet-as}
+use Rattle.views.specs.Rules.{StoreAndView}
+use Rattle.shifts.specs.Outcomes.{Masks}
+use Rattle.commits.specs.Codes.{earlyRefusal, lateRefusal, EarlyGiven, LateGiven}
+
+-- the codes of a commit are those before it is made, and then those after
+pub codes-in-turn : (i : ℕ) (g : Configuration) (c : Commit) → refusesEvent i g (commit c) ≡ orElse (earlyRefusal i (g .store) (viewBefore g c) c) (lateRefusal i g c)
+unfolding refusesEvent earlyRefusal lateRefusal firstSome orElse
+codes-in-turn i g c = join (when (oldNumber (g .store) c) (refuse 9 i)) (mapSome (refusePlace 13 i) (wrongRead (g .store) (viewBefore g c) c)) _
+  where
+    join : (a b r : Option Refusal) → orElse a (orElse b r) ≡ orElse (orElse a (orElse b none)) r
+    join (some x) b r = refl
+    join none (some y) r = refl
+    join none none r = refl
+
+-- ---- code 9
+
+-- the session number is below the bar exactly where it is too small
+pub old-is : (s : Store) (c : Commit) (sessions : List ℕ) → SoundStore s → KeepsSessions s sessions → c .client < maxClients
+    → T (oldNumber s c) ↔ (c .session < getD sessions (2 * maxClients + c .client) 0)
+unfolding oldNumber
+old-is s c sessions h k b = both (both found same) ((k .bar (c .client) b (c .session)) .1, (k .bar (c .client) b (c .session)) .0)
+  where
+    Above : ℕ → Type 0
+    Above t = (Appears s t × (0 < t)) × ((s .clientOf t ≡ c .client) × (c .session ≤ s .sessionOf t))
+    found : T (any (nextNumber s) (notAbove s c)) ↔ ((t : ℕ) × (t < nextNumber s) × Above t)
+    found = any-is (nextNumber s) (notAbove s c) (λ t.
+        and-is (stored s t && ltb 0 t) (eqb (s .clientOf t) (c .client) && leb (c .session) (s .sessionOf t))
+          (and-is (stored s t) (ltb 0 t) (stored-is s h t) (lt-is 0 t))
+          (and-is (eqb (s .clientOf t) (c .client)) (leb (c .session) (s .sessionOf t)) (eq-is _ _) (le-is _ _)))
+    same : ((t : ℕ) × (t < nextNumber s) × Above t) ↔ ((t : ℕ) × CommitOf s (c .client) t × (c .session ≤ s .sessionOf t))
+    same =
+        ( λ (t, l, ((a, p), (e, q))). (t, (appears-stored s t .0 a, p, e), q)
+        , λ (t, (a, p, e), q). let x = appears-stored s t .1 a in (t, appears-lt s h t x, ((x, p), (e, q))) )
+
+-- ---- before the commit is made
+
+module _ (i : ℕ) (s : Store) (u : View) (c : Commit) where
+  pub early-old : T (oldNumber s c) → some (refuse 9 i) ≡ earlyRefusal i s u c
+  unfolding earlyRefusal firstSome when orElse
+  early-old t = ap (λ (x : Bool). orElse (when x (refuse 9 i)) (orElse (mapSome (refusePlace 13 i) (wrongRead s u c)) none)) (sym (T-true (oldNumber s c) t))
+
+  pub early-wrong : ¬ T (oldNumber s c) → (p : Place) → wrongRead s u c ≡ some p → some (refusePlace 13 i p) ≡ earlyRefusal i s u c
+  unfolding earlyRefusal firstSome when orElse mapSome
+  early-wrong n p e =
+      ap (λ (x : Option Place). orElse (mapSome (refusePlace 13 i) x) none) (sym e)
+      ∙ ap (λ (x : Bool). orElse (when x (refuse 9 i)) (orElse (mapSome (refusePlace 13 i) (wrongRead s u c)) none)) (sym (T-false (oldNumber s c) n))
+
+  pub early-none : ¬ T (oldNumber s c) → wrongRead s u c ≡ none → none ≡ earlyRefusal i s u c
+  unfolding earlyRefusal firstSome when orElse mapSome
+  early-none n e =
+      ap (λ (x : Option Place). orElse (mapSome (refusePlace 13 i) x) none) (sym e)
+      ∙ ap (λ (x : Bool). orElse (when x (refuse 9 i)) (orElse (mapSome (refusePlace 13 i) (wrongRead s u c)) none)) (sym (T-false (oldNumber s c) n))
+
+-- ---- after it is made
+
+module _ (i : ℕ) (g : Configuration) (c : Commit) where
+  abbrev Bad : Option ℕ → Option Place → Option ℕ → Option Refusal
+  Bad a b d = orElse (mapSome (refuseKey 10 i) a) (orElse (mapSome (refusePlace 11 i) b) (orElse (mapSome (refuseKey 14 i) d) none))
+
+  pub late-is : lateRefusal i g c ≡ Bad (badMask (storeAfter g c) (c .viewAfter)) (halfHeld (storeAfter g c) (c .viewAfter)) (stray (g .store) (viewBefore g c) c)
+  unfolding lateRefusal firstSome
+  late-is = refl
+
+  pub late-bad : (k : ℕ) → badMask (storeAfter g c) (c .viewAfter) ≡ some k → some (refuseKey 10 i k) ≡ lateRefusal i g c
+  unfolding orElse mapSome
+  late-bad k e = ap (λ (x : Option ℕ). Bad x (halfHeld (storeAfter g c) (c .viewAfter)) (stray (g .store) (viewBefore g c) c)) (sym e) ∙ sym late-is
+
+  pub late-half : (p : Place) → badMask (storeAfter g c) (c .viewAfter) ≡ none → halfHeld (storeAfter g c) (c .viewAfter) ≡ some p → some (refusePlace 11 i p) ≡ lateRefusal i g c
+  unfolding orElse mapSome
+  late-half p e h =
+      ap (λ (x : Option Place). Bad none x (stray (g .store) (viewBefore g c) c)) (sym h)
+      ∙ ap (λ (x : Option ℕ). Bad x (halfHeld (storeAfter g c) (c .viewAfter)) (stray (g .store) (viewBefore g c) c)) (sym e) ∙ sym late-is
+
+  late-rest : badMask (storeAfter g c) (c .viewAfter) ≡ none → halfHeld (storeAfter g c) (c .viewAfter) ≡ none
+      → orElse (mapSome (refuseKey 14 i) (stray (g .store) (viewBefore g c) c)) none ≡ lateRefusal i g c
+  unfolding orElse mapSome
+  late-rest e h =
+      ap (λ (x : Option Place). Bad none x (stray (g .store) (viewBefore g c) c)) (sym h)
+      ∙ ap (λ (x : Option ℕ). Bad x (halfHeld (storeAfter g c) (c .viewAfter)) (stray (g .store) (viewBefore g c) c)) (sym e) ∙ sym late-is
+
+  pub late-stray : (k : ℕ) → badMask (storeAfter g c) (c .viewAfter) ≡ none → halfHeld (storeAfter g c) (c .viewAfter) ≡ none
+      → stray (g .store) (viewBefore g c) c ≡ some k → some (refuseKey 14 i k) ≡ lateRefusal i g c
+  unfolding orElse mapSome
+  late-stray k e h d = ap (λ (x : Option ℕ). orElse (mapSome (refuseKey 14 i) x) none) (sym d) ∙ late-rest e h
+
+  pub late-none : badMask (storeAfter g c) (c .viewAfter) ≡ none → halfHeld (storeAfter g c) (c .viewAfter) ≡ none
+      → stray (g .store) (viewBefore g c) c ≡ none → none ≡ lateRefusal i g c
+  unfolding orElse mapSome
+  late-none e h d = ap (λ (x : Option ℕ). orElse (mapSome (refuseKey 14 i) x) none) (sym d) ∙ late-rest e h
+
+-- what the search of the masks is given
+module _ (g : Configuration) (c : Commit) (values versions keys fresh views seen : List ℕ) (client : ℕ) (ranks : Set) (n : ℕ)
+    (l : LateGiven g c values versions keys fresh views seen client ranks n) (b : client < maxClients) where
+  pub late-masks : Masks (storeAfter g c) (viewBefore g c) (c .viewAfter) n versions keys views (maxKeys * client) (getD seen client 0) fresh
+  late-masks = record {
+    arrays = record {
+      number = keys-after (g .store) (viewBefore g c) c (l .made) ∙ l .keys-are;
+      sound = sound-after (g .store) (viewBefore g c) c (l .made);
+      few = omega (arith, l .room-left, number-after (g .store) (viewBefore g c) c (l .made));
+      in-versions = l .in-versions;
+      in-keys = l .in-keys;
+      in-masks = row
+    };
+    ordered = ordered-commit (g .store) (viewBefore g c) c (l .made) (l .ordered);
+    view = view-of-grown-store (g .store) (viewBefore g c) c (l .made .sound) (viewBefore g c) (l .made .view);
+    seen-is = isSet-as _ (λ t. let x = holds-kept (g .store) (viewBefore g c) c (l .made) (viewBefore g c) (l .made .view) t in (x .1, x .0)) holds;
+    in-fresh = l .in-fresh;
+    fits = subst (λ (k : ℕ). FitsView k (c .viewAfter)) (l .keys-are) (l .made .fits .after)
+  }
+    where
+      row : (k : ℕ) → k < n → getD views (maxKeys * client + k) 0 ≡ viewBefore g c k
+      row k p = l .in-views .rows client b k (omega (arith, l .keys-are)) ∙ ap (λ (d : ℕ). g .views d k) (sym (l .client-is))
+      holds : IsSet (getD seen client 0) (D.Holds (history (g .store)) (held (viewBefore g c)))
+      holds = subst (λ (d : ℕ). IsSet (getD seen client 0) (D.Holds (history (g .store)) (held (g .views d)))) (sym (l .client-is)) (l .in-views .holds client b)
+
+-- the bar as the code reads it
+module _ (s : Store) (u : View) (c : Commit) (sessions versions views values : List ℕ) (client session : ℕ) (ranks : Set) (n : ℕ)
+    (g : EarlyGiven s u c sessions versions views values client session ranks n) (b : client < maxClients) where
+  pub bar-is : T (oldNumber s c) ↔ (session < getD sessions (2 * maxClients + client) 0)
+  bar-is =
+      let own : c .client < maxClients = let e = g .client-is in omega arith in
+      subst (λ (d : ℕ). T (oldNumber s c) ↔ (session < getD sessions (2 * maxClients + d) 0)) (g .client-is)
+      (subst (λ (x : ℕ). T (oldNumber s c) ↔ (x < getD sessions (2 * maxClients + c .client) 0)) (g .session-is)
+      (old-is s c sessions (g .given .sound) (g .in-sessions) own))

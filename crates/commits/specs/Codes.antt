@@ -1,0 +1,50 @@
+-- The codes of a commit in two parts, before it is made and after, and what is given where each is asked. Assumes nothing.
+use Prim.Native.Nat.{ℕ, _*_, _≤_, _<_}
+use mathlib.Core.Path.{_≡_}
+use mathlib.Core.Option.{Option}
+use mathlib.Core.List.{List, [], _∷_}
+use Rattle.search.specs.Choose.{mapSome, when, firstSome}
+use Rattle.sets.specs.Set.{Set}
+use Rattle.store.specs.Limits.{maxKeys, maxCommits}
+use Rattle.store.specs.Store.{View, Store, Configuration, nextNumber, Commit}
+use Rattle.store.specs.Update.{viewBefore, storeAfter}
+use Rattle.store.specs.Refusal.{Refusal, refuse, refuseKey, refusePlace, oldNumber, wrongRead, badMask, halfHeld, stray}
+use Rattle.store.proofs.Sound.{Sound}
+use Rattle.growth.proofs.Made.{Made}
+use Rattle.growth.proofs.Ordered.{Ordered}
+use Rattle.state.specs.Keeps.{KeepsSessions, KeepsVersions, KeepsKeys, KeepsViews, KeepsMasks, KeepsOperations}
+use Rattle.operations.specs.Given.{Given}
+
+-- codes 9 and 13
+unfoldable pub earlyRefusal : ℕ → Store → View → Commit → Option Refusal
+earlyRefusal i s u c = firstSome (when (oldNumber s c) (refuse 9 i) ∷ mapSome (refusePlace 13 i) (wrongRead s u c) ∷ [])
+
+-- codes 10, 11 and 14
+unfoldable pub lateRefusal : ℕ → Configuration → Commit → Option Refusal
+lateRefusal i g c =
+    firstSome
+      ( mapSome (refuseKey 10 i) (badMask (storeAfter g c) (c .viewAfter))
+      ∷ mapSome (refusePlace 11 i) (halfHeld (storeAfter g c) (c .viewAfter))
+      ∷ mapSome (refuseKey 14 i) (stray (g .store) (viewBefore g c) c)
+      ∷ [] )
+
+-- before the commit is made
+pub record EarlyGiven (s : Store) (u : View) (c : Commit) (sessions versions views values : List ℕ) (client session : ℕ) (ranks : Set) (n : ℕ) : Type 0 where
+  pub given : Given s u c versions views (maxKeys * client) values ranks n
+  pub in-sessions : KeepsSessions s sessions
+  pub client-is : c .client ≡ client
+  pub session-is : c .session ≡ session
+
+-- after it is made: the versions and keys are those of the store after it, the views are those before
+pub record LateGiven (g : Configuration) (c : Commit) (values versions keys fresh views seen : List ℕ) (client : ℕ) (ranks : Set) (n : ℕ) : Type 0 where
+  pub sound : Sound g
+  pub made : Made (g .store) (viewBefore g c) c
+  pub ordered : Ordered (g .store)
+  pub keys-are : g .store .keys ≡ n
+  pub room-left : nextNumber (g .store) ≤ maxCommits
+  pub client-is : c .client ≡ client
+  pub operations : KeepsOperations c ranks values
+  pub in-versions : KeepsVersions (storeAfter g c) versions
+  pub in-keys : KeepsKeys (storeAfter g c) keys
+  pub in-fresh : KeepsMasks n (c .viewAfter) fresh
+  pub in-views : KeepsViews g views seen
