@@ -17,7 +17,7 @@ use Rattle.state.specs.Places.{headPlace, writersPlace}
 use Rattle.state.specs.Keeps.{IsSet}
 use Rattle.state.proofs.Sets.{isSet-none, isSet-union, isSet-insert, isSet-without}
 use Rattle.views.specs.Words.{writerIn}
-use Rattle.views.specs.Gained.{WriterAmong, GainedAt, Gains, LackingAt, HalfGained}
+use Rattle.views.specs.Gained.{WriterAmong, GainedAt, Gains, LackingAt, LackingBelow}
 use Rattle.views.proofs.Tests.{has-as}
 use Rattle.views.proofs.Words.{both-is}
 
@@ -109,14 +109,8 @@ module _ (versions fresh masks : List ℕ) (base : ℕ) where
 
 -- what each key lacks
 module _ (keys gain : List ℕ) where
-  abbrev pub LackingBelow : ℕ → ℕ → Type 0
-  LackingBelow k t = (l : ℕ) × (l < k) × LackingAt keys gain l t
-
-  pub lacking-none : IsSet 0 (LackingBelow 0)
+  pub lacking-none : IsSet 0 (LackingBelow keys gain 0)
   lacking-none = keys-none (LackingAt keys gain)
 
-  pub lacking-more : (k a b : ℕ) {c : ℕ} → IsSet a (LackingBelow k) → b ≡ without (getD keys (writersPlace k) 0) (getD gain k 0) → c ≡ union a b → IsSet c (LackingBelow (k + 1))
+  pub lacking-more : (k a b : ℕ) {c : ℕ} → IsSet a (LackingBelow keys gain k) → b ≡ without (getD keys (writersPlace k) 0) (getD gain k 0) → c ≡ union a b → IsSet c (LackingBelow keys gain (k + 1))
   lacking-more k a b p q e = keys-more (LackingAt keys gain) k a b p (λ t. rw q (without-is (getD keys (writersPlace k) 0) (getD gain k 0) t)) e
-
-  pub half-of : (all a n : ℕ) → IsSet a (LackingBelow n) → IsSet (bitAnd all a) (HalfGained keys gain n all)
-  half-of all a n p t = both (both-is all a t) (λ (x, y). (x, p t .0 y), λ (x, y). (x, p t .1 y))

@@ -8,6 +8,7 @@ use mathlib.Core.List.{List}
 use native.Mathlib.Omega.{arith}
 use native.Mathlib.Decide.{decLt}
 use lib.Dec.{T}
+use lib.Bits.{bitAnd}
 use lib.ListN.{getD}
 use Rattle.search.proofs.Tests.{both, stable}
 use Rattle.sets.specs.Set.{Set, has, union, without}
@@ -27,11 +28,11 @@ use Rattle.state.specs.Places.{headPlace}
 use Rattle.state.specs.Keeps.{IsSet}
 use Rattle.state.proofs.Sets.{isSet-as, isSet-union}
 use Rattle.views.specs.Rules.{StoreAndView, byWriter}
-use Rattle.views.specs.Gained.{GainedAt, Gains, HalfGained}
+use Rattle.views.specs.Gained.{GainedAt, Gains, LackingBelow}
 use Rattle.views.specs.Viewed.{NewMasks}
 use Rattle.views.proofs.Tests.{has-as}
 use Rattle.views.proofs.Codes.{mask-holds}
-use Rattle.views.proofs.Words.{writer-in}
+use Rattle.views.proofs.Words.{both-is, writer-in}
 use Rattle.views.proofs.Rows.{masks-row}
 use Rattle.views.proofs.Agree.{missing-agree}
 
@@ -83,8 +84,15 @@ module _ (s : Store) (old u : View) (n : ℕ) (versions keys masks : List ℕ) (
   key-lt : (k i : ℕ) → i < count s k → k < n
   key-lt k i l = let b : k < s .keys = sound .only-keys k i l in omega (arith, m .arrays .number)
 
-  module _ (grows : (k i : ℕ) → T (has (old k) i) → T (has (u k) i)) (gain : List ℕ) (all half : Set)
-      (g : Gains versions fresh masks base n gain all) (h : IsSet half (HalfGained keys gain n all)) where
+  module _ (grows : (k i : ℕ) → T (has (old k) i) → T (has (u k) i)) (gain : List ℕ) (all : Set)
+      (g : Gains versions fresh masks base n gain all) (lack : Set) (l : IsSet lack (LackingBelow keys gain n)) where
+    -- those that gained, and lack a key
+    h : IsSet (bitAnd all lack) (λ t. T (has all t) × LackingBelow keys gain n t)
+    h t = both (both-is all lack t) (λ (x, y). (x, l t .0 y), λ (x, y). (x, l t .1 y))
+
+    abbrev half : Set
+    half = bitAnd all lack
+
     all-is : IsSet all (λ t. (k : Key) × GainedOf s old u k t)
     all-is = isSet-as all (λ t. (λ (k, l, x). (k, gained-is k t l .0 x), λ (k, x). let l = key-lt k (x .0) (x .3 .0) in (k, l, gained-is k t l .1 x))) (g .whole)
 
@@ -95,19 +103,19 @@ module _ (s : Store) (old u : View) (n : ℕ) (versions keys masks : List ℕ) (
 
     -- a version that the masks lack is by a commit of which they hold another exactly where it is by one that gained and lacks a key
     half-is : (k i : ℕ) → i < count s k → ¬ T (has (u k) i) → T (wholeWriters s u k i) ↔ T (byWriter s half k i)
-    half-is k i l lacking = (λ x. h t .1 (cases (holds-gained s old u grows t .0 (holds-means s sound u t .0 x))), λ x. holds-means s sound u t .1 (holds-gained s old u grows t .1 (inr (all-is t .0 (h t .0 x .0)))))
+    half-is k i b lacking = (λ x. h t .1 (cases (holds-gained s old u grows t .0 (holds-means s sound u t .0 x))), λ x. holds-means s sound u t .1 (holds-gained s old u grows t .1 (inr (all-is t .0 (h t .0 x .0)))))
       where
         t : CommitNumber
         t = version s k i .writer
         wrote : Wrote s t k i
-        wrote = (l, refl)
+        wrote = (b, refl)
         ungained : ¬ T (has (getD gain k 0) t)
         ungained y =
-            let z = gained-is k t (key-lt k i l) .0 (g .each k (key-lt k i l) t .0 y) in
+            let z = gained-is k t (key-lt k i b) .0 (g .each k (key-lt k i b) t .0 y) in
             lacking (subst (λ (j : ℕ). T (has (u k) j)) (writes-once s sound (m .ordered) t k (z .0) i (z .3) wrote) (z .1))
-        cases : Holds (history s) (held old) t ⊎ ((j : Key) × GainedOf s old u j t) → HalfGained keys gain n all t
+        cases : Holds (history s) (held old) t ⊎ ((j : Key) × GainedOf s old u j t) → T (has all t) × LackingBelow keys gain n t
         cases (inl (k′, i′, y, x)) = absurd (lacking (grows k i (m .view .whole t k′ i′ k i y x wrote)))
-        cases (inr x) = (all-is t .1 x, (k, key-lt k i l, (m .arrays .in-keys .writers k (sound .only-keys k i l) t .1 (i, wrote), ungained)))
+        cases (inr x) = (all-is t .1 x, (k, key-lt k i b, (m .arrays .in-keys .writers k (sound .only-keys k i b) t .1 (i, wrote), ungained)))
 
     -- code 11 is the search by these commits
     pub half-same : halfHeld s u ≡ missing s (byWriter s half) u

@@ -7,4 +7,5 @@ pub mod Gathered
 pub mod Agree
 pub mod Grown
 pub mod OpeningView
+pub mod AtOnce
 pub mod Rows
