@@ -1,25 +1,23 @@
 -- Sets of commits gathered by a loop: over the numbers of a set, and over the keys. Assumes nothing.
-use Prim.Native.Nat.{ℕ, _+_, _^_, _≤_, _<_}
-use mathlib.Core.Path.{_≡_, refl, sym, ap, _∙_, subst}
-use mathlib.Core.Logic.{_⊎_, inl, inr, _↔_, _≢_}
+use Prim.Native.Nat.{ℕ, _+_, _^_, _<_}
+use mathlib.Core.Path.{_≡_, sym, ap, _∙_, subst}
+use mathlib.Core.Logic.{_⊎_, inl, inr, _≢_}
 use mathlib.Core.List.{List}
 use native.Mathlib.Omega.{arith}
 use native.Mathlib.Decide.{ℕ-discrete}
 use lib.Dec.{T}
-use lib.Bits.{bitAnd}
 use lib.ListN.{length, getD, set}
 use lib.Seq.{getD-set-same, getD-set-other}
 use Rattle.search.proofs.Tests.{both, stable, T?}
-use Rattle.sets.specs.Set.{Set, has, single, insert, union, lowest, without}
+use Rattle.sets.specs.Set.{has, single, insert, union, lowest, without}
 use Rattle.sets.proofs.Laws.{has-none, has-lowest, single-has, single-only}
 use Rattle.sets.proofs.Algebra.{without-is, without-word}
 use Rattle.state.specs.Places.{headPlace, writersPlace}
 use Rattle.state.specs.Keeps.{IsSet}
-use Rattle.state.proofs.Sets.{isSet-none, isSet-union, isSet-insert, isSet-without}
+use Rattle.state.proofs.Sets.{isSet-none, isSet-union, isSet-insert}
 use Rattle.views.specs.Words.{writerIn}
 use Rattle.views.specs.Gained.{WriterAmong, GainedAt, Gains, LackingAt, LackingBelow}
 use Rattle.views.proofs.Tests.{has-as}
-use Rattle.views.proofs.Words.{both-is}
 
 -- ---- over the numbers of a set
 

@@ -1,30 +1,29 @@
 -- New masks that hold all of a view: the commits of which they hold a version are those of the view and those that gained, and code 11 is due exactly where
 -- one that gained lacks a version of a key that it wrote, as a commit writes at most one version of a key. Assumes nothing.
-use Prim.Native.Nat.{ℕ, _+_, _^_, _≤_, _<_}
-use mathlib.Core.Path.{_≡_, refl, sym, ap, _∙_, subst}
-use mathlib.Core.Logic.{_⊎_, inl, inr, _↔_, _≢_}
-use mathlib.Core.Option.{Option, some, none}
+use Prim.Native.Nat.{ℕ, _+_, _<_}
+use mathlib.Core.Path.{_≡_, refl, sym, _∙_, subst}
+use mathlib.Core.Logic.{_⊎_, inl, inr, _↔_}
+use mathlib.Core.Option.{none}
 use mathlib.Core.List.{List}
 use native.Mathlib.Omega.{arith}
 use native.Mathlib.Decide.{decLt}
 use lib.Dec.{T}
 use lib.Bits.{bitAnd}
 use lib.ListN.{getD}
-use Rattle.search.proofs.Tests.{both, stable}
-use Rattle.sets.specs.Set.{Set, has, union, without}
+use Rattle.search.proofs.Tests.{both}
+use Rattle.sets.specs.Set.{Set, has, union}
 use Rattle.sets.proofs.Laws.{has-none}
 use Rattle.sets.proofs.Algebra.{without-is}
 use Rattle.dependencies.specs.History.{Holds}
-use Rattle.store.specs.Store.{Key, VersionNumber, CommitNumber, View, Store, count, version}
-use Rattle.store.specs.Missing.{Place, missing}
-use Rattle.store.specs.Refusal.{badMask, halfHeld, wholeWriters, allOf}
+use Rattle.store.specs.Store.{Key, CommitNumber, View, Store, count, version}
+use Rattle.store.specs.Missing.{missing}
+use Rattle.store.specs.Refusal.{halfHeld, wholeWriters, allOf}
 use Rattle.store.proofs.Updated.{Wrote}
-use Rattle.store.proofs.Sound.{IsView, SoundStore, FitsView}
+use Rattle.store.proofs.Sound.{SoundStore}
 use Rattle.store.proofs.Missing.{missing-none}
 use Rattle.store.proofs.Links.{history, held, holds-means}
 use Rattle.growth.proofs.Ordered.{writes-once}
 use Rattle.growth.proofs.Views.{GainedOf, holds-gained}
-use Rattle.state.specs.Places.{headPlace}
 use Rattle.state.specs.Keeps.{IsSet}
 use Rattle.state.proofs.Sets.{isSet-as, isSet-union}
 use Rattle.views.specs.Rules.{StoreAndView, byWriter}

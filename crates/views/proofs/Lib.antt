@@ -8,4 +8,5 @@ pub mod Agree
 pub mod Grown
 pub mod OpeningView
 pub mod AtOnce
+pub mod Written
 pub mod Rows

@@ -1,19 +1,17 @@
 -- The search for the first missing version, key by key: at a key the versions that may be missing are a set, and the search looks at its numbers in
 -- order. Assumes nothing.
 use Prim.Native.Nat.{ℕ, _^_, _≤_, _<_}
-use mathlib.Core.Path.{_≡_, refl, sym, ap, _∙_, subst}
-use mathlib.Core.Bool.{Bool}
+use mathlib.Core.Path.{_≡_, sym, _∙_, subst}
 use mathlib.Core.Logic.{_≢_}
-use mathlib.Core.Option.{Option, some, none}
+use mathlib.Core.Option.{some, none}
 use native.Mathlib.Omega.{arith}
-use native.Mathlib.Decide.{ℕ-discrete}
 use lib.Dec.{T}
 use Rattle.search.proofs.Tests.{stable}
 use Rattle.sets.specs.Set.{has, below, lowest, single, without}
 use Rattle.sets.proofs.Laws.{has-none, has-below, below-has, has-lowest, lowest-least, single-only}
 use Rattle.sets.proofs.Algebra.{without-is, without-word}
 use Rattle.store.specs.Store.{Key, View, Store, count}
-use Rattle.store.specs.Missing.{Place, Rule, missing}
+use Rattle.store.specs.Missing.{Rule, missing}
 use Rattle.store.specs.Refusal.{allOf}
 use Rattle.store.proofs.Sound.{IsView}
 use Rattle.store.proofs.Missing.{MetAt, missing-none, missing-found}
@@ -63,7 +61,6 @@ module _ (s : Store) (want : Rule) (u : View) (k : Key) where
         where
           earlier : (j : ℕ) → j < v → T (has left j) → ⊥
           earlier j m x = let g : lowest left ≤ j = lowest-least left some-left (h .word) j x in omega arith
-
 
 module _ (s : Store) (u : View) (k : Key) where
   -- the versions of another view that the mask lacks

@@ -1,25 +1,22 @@
 -- The view {0} at each key is a view of every store of a run, and holds the opening transaction alone. Assumes nothing.
-use Prim.Native.Nat.{ℕ, zero, suc, _+_, _^_, _≤_, _<_}
-use mathlib.Core.Path.{_≡_, refl, sym, ap, _∙_, subst}
-use mathlib.Core.Logic.{_⊎_, inl, inr, _↔_, _≢_}
+use Prim.Native.Nat.{ℕ, _+_, _^_, _≤_, _<_}
+use mathlib.Core.Path.{_≡_, sym, ap, _∙_, subst}
 use mathlib.Core.List.{List}
 use native.Mathlib.Omega.{arith}
 use native.Mathlib.Decide.{decLt}
 use lib.Dec.{T, ltb, lt→ltb, ltb→lt, not-T, lit<}
-use lib.ListN.{getD, replicate, getD-replicate}
+use lib.ListN.{replicate, getD-replicate}
 use Rattle.search.specs.Choose.{choose}
 use Rattle.search.proofs.Choose.{choose-yes, choose-no}
 use Rattle.sets.specs.Set.{Set, has}
 use Rattle.sets.proofs.Laws.{has-none, has-lt}
 use Rattle.dependencies.specs.History.{Holds}
-use Rattle.store.specs.Store.{Key, View, Store, count, version}
+use Rattle.store.specs.Store.{View, Store, count, version}
 use Rattle.store.proofs.Updated.{Wrote}
 use Rattle.store.proofs.Sound.{IsView, SoundStore}
 use Rattle.store.proofs.Links.{history, held}
 use Rattle.growth.proofs.Ordered.{Ordered, opening-wrote-first}
 use Rattle.state.specs.Keeps.{IsSet}
-use Rattle.views.specs.Rows.{RowAt}
-use Rattle.views.specs.Rules.{StoreAndView}
 use Rattle.views.specs.Viewed.{NewMasks}
 use Rattle.views.proofs.Tests.{has-as}
 use Rattle.views.proofs.Codes.{mask-holds}

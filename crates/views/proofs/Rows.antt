@@ -1,14 +1,13 @@
 -- A row while it is copied, and the rows of all clients after. Assumes nothing.
 use Prim.Native.Nat.{ℕ, _+_, _*_, _≤_, _<_}
-use mathlib.Core.Path.{_≡_, refl, sym, ap, _∙_, subst}
+use mathlib.Core.Path.{_≡_, refl, ap, _∙_}
 use mathlib.Core.Logic.{_⊎_, inl, inr}
 use mathlib.Core.List.{List}
 use native.Mathlib.Omega.{arith}
 use native.Mathlib.Decide.{ℕ-discrete, decLt}
-use native.Mathlib.Nat.{add-zero}
 use lib.ListN.{length, getD, set, length-set}
 use lib.Seq.{getD-set-same, getD-set-other}
-use Rattle.store.specs.Store.{Key, Client, View}
+use Rattle.store.specs.Store.{Client, View}
 use Rattle.store.specs.Update.{atNumber}
 use Rattle.store.proofs.Updated.{at-same, at-other}
 use Rattle.state.specs.Keeps.{RowIs, KeepsMasks}

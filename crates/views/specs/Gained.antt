@@ -3,7 +3,7 @@ use Prim.Native.Nat.{ℕ, _+_, _<_}
 use mathlib.Core.Path.{_≡_}
 use mathlib.Core.List.{List}
 use lib.Dec.{T}
-use lib.ListN.{length, getD}
+use lib.ListN.{getD}
 use Rattle.sets.specs.Set.{Set, has, without}
 use Rattle.store.specs.Store.{Key, CommitNumber}
 use Rattle.state.specs.Places.{headPlace, writersPlace}
