@@ -53,12 +53,14 @@ module _ (s : Store) (old u : View) (n : ℕ) (versions keys masks : List ℕ) (
       where
         all-held : (t : ℕ) → Holds (history s) (held u) t ↔ Writer (history s) t
         all-held = full-holds s u (λ k i l. has-as i (sym (full k (sound .only-keys k i l))) (has-below (count s k) i l))
+
         writers : (t : ℕ) → LackingBelow keys (replicate 16 0) n t ↔ Writer (history s) t
-        writers t =
-            ( λ (k, l, (x, _)). (k, m .arrays .in-keys .writers k (omega (arith, m .arrays .number)) t .0 x)
-            , λ (k, w). let b : k < s .keys = sound .only-keys k (w .0) (w .1 .0) in
-                let l : k < n = omega (arith, m .arrays .number) in
-                (k, l, (m .arrays .in-keys .writers k b t .1 w, λ y. has-none t (has-as t (getD-replicate 16 k 0 0 (omega arith)) y))) )
+        writers t = (
+          λ (k, l, (x, _)). (k, m .arrays .in-keys .writers k (omega (arith, m .arrays .number)) t .0 x),
+          λ (k, w). let b : k < s .keys = sound .only-keys k (w .0) (w .1 .0) in
+              let l : k < n = omega (arith, m .arrays .number) in
+              (k, l, (m .arrays .in-keys .writers k b t .1 w, λ y. has-none t (has-as t (getD-replicate 16 k 0 0 (omega arith)) y))),
+        )
 
   -- ---- the masks are those of the view
   module _ (e : (k : ℕ) → k < n → getD fresh k 0 ≡ getD masks (base + k) 0) where
@@ -81,7 +83,7 @@ module _ (s : Store) (old u : View) (n : ℕ) (versions keys masks : List ℕ) (
       beyond = fits .beyond;
       opened = λ k l. back-has k 0 (m .view .opened k l);
       exist = λ k i x. m .view .exist k i (same-has k i x);
-      whole = λ t k i l j x w v. back-has l j (m .view .whole t k i l j (same-has k i x) w v)
+      whole = λ t k i l j x w v. back-has l j (m .view .whole t k i l j (same-has k i x) w v);
     })
 
     pub same-holds : IsSet seen (Holds (history s) (held u))

@@ -40,28 +40,36 @@ module _ (versions : List ℕ) (k among : ℕ) where
     gathering-on p {v} {w} {rest} {more} low by e f = record {
       word = rw e (without-word left (single (lowest left)) (g .word));
       within = λ i x. g .within i (still i x);
-      so-far = λ t. (λ x. out t (isSet-insert w writers (g .so-far) t .0 (has-as t f x)), λ x. has-as t (sym f) (isSet-insert w writers (g .so-far) t .1 (back t x)))
+      so-far = λ t. (λ x. out t (isSet-insert w writers (g .so-far) t .0 (has-as t f x)), λ x. has-as t (sym f) (isSet-insert w writers (g .so-far) t .1 (back t x)));
     }
       where
         After : ℕ → Type 0
         After t = (i : ℕ) × T (has among i) × (¬ T (has rest i)) × (writerIn (getD versions (headPlace k i) 0) ≡ t)
+
         Before : ℕ → Type 0
         Before t = (i : ℕ) × T (has among i) × (¬ T (has left i)) × (writerIn (getD versions (headPlace k i) 0) ≡ t)
+
         in-left : T (has left v)
         in-left = rw low (has-lowest left (omega arith) (g .word))
+
         still : (i : ℕ) → T (has rest i) → T (has left i)
         still i x = without-is left (single (lowest left)) i .0 (has-as i e x) .0
+
         gone : ¬ T (has rest v)
         gone x = without-is left (single (lowest left)) v .0 (has-as v e x) .1 (rw low (single-has (lowest left)))
+
         out : (t : ℕ) → (t ≡ w) ⊎ Before t → After t
         out t (inl q) = (v, g .within v in-left, gone, sym by ∙ sym q)
         out t (inr (i, h, n, q)) = (i, h, (λ x. n (still i x)), q)
+
         last : (i : ℕ) → T (has left i) → ¬ T (has rest i) → i ≡ v
         last i y n =
             single-only (lowest left) i (stable (has (single (lowest left)) i) (λ z. n (has-as i (sym e) (without-is left (single (lowest left)) i .1 (y, z))))) ∙ sym low
+
         cases : (t i : ℕ) → T (has among i) → ¬ T (has rest i) → writerIn (getD versions (headPlace k i) 0) ≡ t → Dec (T (has left i)) → (t ≡ w) ⊎ Before t
         cases t i h n q (no m) = inr (i, h, m, q)
         cases t i h n q (yes y) = inl (sym q ∙ ap (λ (j : ℕ). writerIn (getD versions (headPlace k j) 0)) (last i y n) ∙ sym by)
+
         back : (t : ℕ) → After t → (t ≡ w) ⊎ Before t
         back t (i, h, n, q) = cases t i h n q (T? (has left i))
 
@@ -82,6 +90,7 @@ module _ (P : ℕ → ℕ → Type 0) where
       out : ((l : ℕ) × (l < k) × P l t) ⊎ P k t → (l : ℕ) × (l < k + 1) × P l t
       out (inl (l, m, x)) = (l, omega arith, x)
       out (inr x) = (k, omega arith, x)
+
       back : (l : ℕ) → l < k + 1 → P l t → Dec (l ≡ k) → ((l : ℕ) × (l < k) × P l t) ⊎ P k t
       back l m x (yes z) = inr (subst (λ (j : ℕ). P j t) z x)
       back l m x (no z) = inl (l, omega arith, x)
@@ -96,11 +105,12 @@ module _ (versions fresh masks : List ℕ) (base : ℕ) where
       → more ≡ union all w → Gains versions fresh masks base (k + 1) (set gain k w) more
   gains-more k all w {m} {more} {gain} g l q s e = record {
     each = λ i b. each i b (ℕ-discrete i k);
-    whole = keys-more (GainedAt versions fresh masks base) k all w (g .whole) p e
+    whole = keys-more (GainedAt versions fresh masks base) k all w (g .whole) p e;
   }
     where
       p : IsSet w (GainedAt versions fresh masks base k)
       p = rw (← q) s
+
       each : (i : ℕ) → i < k + 1 → Dec (i ≡ k) → IsSet (getD (set gain k w) i 0) (GainedAt versions fresh masks base i)
       each i b (yes q) = rw (q, getD-set-same gain k w 0 l) p
       each i b (no q) = rw (getD-set-other gain k i w 0 q) (g .each i (omega arith))

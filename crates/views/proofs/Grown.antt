@@ -59,7 +59,7 @@ module _ (s : Store) (old u : View) (n : ℕ) (versions keys masks : List ℕ) (
     few = m .arrays .few;
     in-versions = m .arrays .in-versions;
     in-keys = m .arrays .in-keys;
-    in-masks = masks-row (m .in-fresh)
+    in-masks = masks-row (m .in-fresh);
   }
 
   -- what a key gained, in the arrays and in the store
@@ -68,14 +68,17 @@ module _ (s : Store) (old u : View) (n : ℕ) (versions keys masks : List ℕ) (
     where
       mask : getD fresh k 0 ≡ u k
       mask = m .in-fresh .masks k l
+
       view : getD masks (base + k) 0 ≡ old k
       view = m .arrays .in-masks k l
+
       out : GainedAt versions fresh masks base k t → GainedOf s old u k t
       out (i, h, q) =
           let w = without-is (getD fresh k 0) (getD masks (base + k) 0) i .0 h in
           let x : T (has (u k) i) = has-as i mask (w .0) in
           let b : i < count s k = exist k i x in
           (i, x, (λ y. w .1 (has-as i (sym view) y)), (b, sym (writer-in s old n versions keys masks base (m .arrays) k i b) ∙ q))
+
       back : GainedOf s old u k t → GainedAt versions fresh masks base k t
       back (i, x, y, z) =
           (i, without-is (getD fresh k 0) (getD masks (base + k) 0) i .1 (has-as i (sym mask) x, λ h. y (has-as i view h)), writer-in s old n versions keys masks base (m .arrays) k i (z .0) ∙ z .1)
@@ -106,12 +109,15 @@ module _ (s : Store) (old u : View) (n : ℕ) (versions keys masks : List ℕ) (
       where
         t : CommitNumber
         t = version s k i .writer
+
         wrote : Wrote s t k i
         wrote = (b, refl)
+
         ungained : ¬ T (has (getD gain k 0) t)
         ungained y =
             let z = gained-is k t (key-lt k i b) .0 (g .each k (key-lt k i b) t .0 y) in
             lacking (subst (λ (j : ℕ). T (has (u k) j)) (writes-once s sound (m .ordered) t k (z .0) i (z .3) wrote) (z .1))
+
         cases : Holds (history s) (held old) t ⊎ ((j : Key) × GainedOf s old u j t) → T (has all t) × LackingBelow keys gain n t
         cases (inl (k′, i′, y, x)) = absurd (lacking (grows k i (m .view .whole t k′ i′ k i y x wrote)))
         cases (inr x) = (all-is t .1 x, (k, key-lt k i b, (m .arrays .in-keys .writers k (sound .only-keys k i b) t .1 (i, wrote), ungained)))

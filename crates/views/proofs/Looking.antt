@@ -29,7 +29,7 @@ module _ (s : Store) (want : Rule) (u : View) (k : Key) where
   looking-all {full} {mask} {left} b e f q = rw q (record {
     word = without-word full mask b;
     within = λ i t. let w = without-is full mask i .0 t in (below-has (count s k) i (has-as i e (w .0)), λ h. w .1 (has-as i (sym f) h));
-    waits = λ i l t n. without-is full mask i .1 (has-as i (sym e) (has-below (count s k) i l), λ h. n (has-as i f h))
+    waits = λ i l t n. without-is full mask i .1 (has-as i (sym e) (has-below (count s k) i l), λ h. n (has-as i f h));
   })
 
   module _ {left : ℕ} (h : Looking s want u k left) where
@@ -50,7 +50,7 @@ module _ (s : Store) (want : Rule) (u : View) (k : Key) where
         word = rw e (without-word left (single (lowest left)) (h .word));
         within = λ i t. h .within i (without-is left (single (lowest left)) i .0 (has-as i e t) .0);
         waits = λ i l t m. has-as i (sym e) (without-is left (single (lowest left)) i .1
-          (h .waits i l t m, λ x. n (h .within v lowest-in .0) (subst (λ (j : ℕ). T (want k j)) (single-only (lowest left) i x ∙ sym low) t)))
+            (h .waits i l t m, λ x. n (h .within v lowest-in .0) (subst (λ (j : ℕ). T (want k j)) (single-only (lowest left) i x ∙ sym low) t)));
       }
 
       -- it is wanted: the first
@@ -68,7 +68,7 @@ module _ (s : Store) (u : View) (k : Key) where
   looking-lost old v {view} {mask} {left} b e f q = rw q (record {
     word = without-word view mask b;
     within = λ i t. let w = without-is view mask i .0 t in (v .exist k i (has-as i e (w .0)), λ h. w .1 (has-as i (sym f) h));
-    waits = λ i l t n. without-is view mask i .1 (has-as i (sym e) t, λ h. n (has-as i f h))
+    waits = λ i l t n. without-is view mask i .1 (has-as i (sym e) t, λ h. n (has-as i f h));
   })
 
   -- the lowest of them is wanted

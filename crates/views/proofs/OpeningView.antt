@@ -67,14 +67,15 @@ module _ (s : Store) (sound : SoundStore s) (o : Ordered s) where
     whole = λ t k i l j x w v.
         let e : t ≡ 0 = by-opening t k i x w in
         let z : j ≡ 0 = opening-wrote-first s sound o l j (subst (λ (a : ℕ). Wrote s a l j) e v) in
-        subst (λ (a : ℕ). T (has (openingView (s .keys) l) a)) (sym z) (zero-there (s .keys) l (sound .only-keys l j (v .0)))
+        subst (λ (a : ℕ). T (has (openingView (s .keys) l) a)) (sym z) (zero-there (s .keys) l (sound .only-keys l j (v .0)));
   }
 
   pub opening-holds : 0 < s .keys → IsSet 1 (Holds (history s) (held (openingView (s .keys))))
-  opening-holds some t =
-      ( λ x. let b : t < 1 = has-lt 1 1 t (lit< tt) x in
-          subst (Holds (history s) (held (openingView (s .keys)))) (let e : 0 ≡ t = omega arith in e) (0, 0, zero-there (s .keys) 0 some, o .first-by-opening 0 some)
-      , λ (k, i, x, w). subst (λ (a : ℕ). T (has 1 a)) (sym (by-opening t k i x w)) tt )
+  opening-holds some t = (
+    λ x. let b : t < 1 = has-lt 1 1 t (lit< tt) x in
+        subst (Holds (history s) (held (openingView (s .keys)))) (let e : 0 ≡ t = omega arith in e) (0, 0, zero-there (s .keys) 0 some, o .first-by-opening 0 some),
+    λ (k, i, x, w). subst (λ (a : ℕ). T (has 1 a)) (sym (by-opening t k i x w)) tt,
+  )
 
 -- ---- new masks over the opening view
 
@@ -88,14 +89,14 @@ module _ (s : Store) (old u : View) (n : ℕ) (versions keys masks : List ℕ) (
       few = m .arrays .few;
       in-versions = m .arrays .in-versions;
       in-keys = m .arrays .in-keys;
-      in-masks = λ k l. getD-replicate 16 (0 + k) 1 0 (omega arith) ∙ sym (one-there (s .keys) k (omega (arith, m .arrays .number)))
+      in-masks = λ k l. getD-replicate 16 (0 + k) 1 0 (omega arith) ∙ sym (one-there (s .keys) k (omega (arith, m .arrays .number)));
     };
     ordered = m .ordered;
     view = opening-view s (m .arrays .sound) (m .ordered);
     seen-is = opening-holds s (m .arrays .sound) (m .ordered) (omega (arith, m .arrays .number));
     in-fresh = m .in-fresh;
     fits = m .fits;
-    good = m .good
+    good = m .good;
   }
 
   pub opening-grows : (k i : ℕ) → T (has (openingView (s .keys) k) i) → T (has (u k) i)

@@ -75,7 +75,7 @@ module _ (s : Store) (u : View) (c : Commit) (sound : SoundStore s) where
   own-found k l w {v} e n before =
       let new : Wrote (update s u c) (nextNumber s) k v = rw e (wrote-new s u c k w) in
       sym (missing-found (update s u c) (wrote (update s u c) (nextNumber s)) (c .viewAfter) k v (rw (key-after s u c) l) (new .0) (eq-is _ _ .1 (new .1)) n before
-        (λ j m t. let q : j ≡ count s k = own-only k j (omega (arith, new .0)) t .1 in absurd (omega arith)))
+      (λ j m t. let q : j ≡ count s k = own-only k j (omega (arith, new .0)) t .1 in absurd (omega arith)))
 
   pub own-nowhere : (n : ℕ) → s .keys ≡ n → ((l : Key) → l < n → OwnMet s u c l)
       → none ≡ missing (update s u c) (wrote (update s u c) (nextNumber s)) (c .viewAfter)

@@ -21,14 +21,21 @@ fn writers_of(versions: &[u64], k: usize, set: u64) -> u64
     let mut left = set;
     while left != 0 {
         let v = sets::lowest(left);
-        writers = sets::insert(writers, missing::writer_of(versions[64 * k + v]));
+        writers = sets::insert(writers, missing::writer_of(versions[crate::PER_KEY * k + v]));
         left = sets::rest(left);
     }
     writers
 }
 
 // The writers of what the masks hold and those at `base` do not: for each key in `gain`, and all of them.
-fn gained(versions: &[u64], fresh: &[u64], masks: &[u64], base: usize, gain: &mut [u64], n: usize) -> u64
+fn gained(
+    versions: &[u64],
+    fresh: &[u64],
+    masks: &[u64],
+    base: usize,
+    gain: &mut [u64],
+    n: usize,
+) -> u64
     requires { ⌜ (n ≤ 16) × (length (now versions) ≡ 2048) × (length (now fresh) ≡ 16) × (base + n ≤ length (now masks)) × (length (now gain) ≡ 16) ⌝ }
     ensures { λ r. ⌜ (length (now (gain .exit)) ≡ 16) × Gains (now (versions .entry)) (now (fresh .entry)) (now (masks .entry)) base n (now (gain .exit)) r ⌝ }
 {
@@ -51,14 +58,22 @@ fn lacking(keys: &[u64], gain: &[u64], n: usize) -> u64
     let mut all = 0u64;
     let mut k: usize = 0;
     while k < n {
-        all = sets::union(all, sets::without(keys[16 + k], gain[k]));
+        all = sets::union(all, sets::without(keys[crate::WRITERS + k], gain[k]));
         k = k + 1;
     }
     all
 }
 
 // Masks that hold all of the view at `base`.
-fn grown(versions: &[u64], keys: &[u64], fresh: &[u64], masks: &[u64], base: usize, seen: u64, n: usize) -> Viewed
+fn grown(
+    versions: &[u64],
+    keys: &[u64],
+    fresh: &[u64],
+    masks: &[u64],
+    base: usize,
+    seen: u64,
+    n: usize,
+) -> Viewed
     requires { ⌜ (n ≤ 16) × (length (now versions) ≡ 2048) × (length (now keys) ≡ 32) × (length (now fresh) ≡ 16) × (base + n ≤ length (now masks)) ⌝ }
     ensures { λ r. ⌜ ((s : Store) (old u : View) → NewMasks s old u n (now (versions .entry)) (now (keys .entry)) (now (masks .entry)) base seen (now (fresh .entry)) → ((k i : ℕ) → T (has (old k) i) → T (has (u k) i)) → ViewedAs s u r) ⌝ }
 {
@@ -77,7 +92,15 @@ fn grown(versions: &[u64], keys: &[u64], fresh: &[u64], masks: &[u64], base: usi
 
 // Code 11, and the commits of which the masks hold a version: by difference from the client's view at `base`, where the masks hold all of
 // it, and else from the opening view. Two common cases are answered at once: all versions that there are, and the client's view itself.
-pub fn viewed(versions: &[u64], keys: &[u64], fresh: &[u64], views: &[u64], base: usize, seen: u64, n: usize) -> Viewed
+pub fn viewed(
+    versions: &[u64],
+    keys: &[u64],
+    fresh: &[u64],
+    views: &[u64],
+    base: usize,
+    seen: u64,
+    n: usize,
+) -> Viewed
     requires { ⌜ (1 ≤ n) × (n ≤ 16) × (length (now versions) ≡ 2048) × (length (now keys) ≡ 32) × (length (now fresh) ≡ 16) × (base + n ≤ length (now views)) ⌝ }
     ensures { λ r. ⌜ ((s : Store) (old u : View) → NewMasks s old u n (now (versions .entry)) (now (keys .entry)) (now (views .entry)) base seen (now (fresh .entry)) → ViewedAs s u r) ⌝ }
 {

@@ -58,9 +58,12 @@ loop-less : tie.Need-loop-less Inv-loop μ-loop
 loop-less c = search needs
 
 loop-again : tie.Need-loop-again Inv-loop μ-loop
-loop-again c = (omega arith, λ s u e kk km.
-    below-more _ _ (c .before .before .before .before .before .before .before .loop .inv .1 s u e kk km)
-    (good-mask s u _ (km .masks _ (omega arith)) (kk .full _ (omega arith)) (not-left (c .before .before .before .if1 .left) (c .before .before .before .before .has .ensures)) (sym (c .before .without .ensures) ∙ c .if2 .left)))
+loop-again c = (
+  omega arith,
+  λ s u e kk km.
+      below-more _ _ (c .before .before .before .before .before .before .before .loop .inv .1 s u e kk km)
+      (good-mask s u _ (km .masks _ (omega arith)) (kk .full _ (omega arith)) (not-left (c .before .before .before .if1 .left) (c .before .before .before .before .has .ensures)) (sym (c .before .without .ensures) ∙ c .if2 .left)),
+)
 
 returns-3 : tie.Need-returns-3 Inv-loop μ-loop
 returns-3 c = λ s u e kk km. bad-nowhere s u _ e (λ l h. c .before .loop .inv .1 s u e kk km l (omega arith))

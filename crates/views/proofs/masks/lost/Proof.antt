@@ -59,9 +59,12 @@ loop-less : tie.Need-loop-less Inv-loop μ-loop
 loop-less c = search needs
 
 loop-again : tie.Need-loop-again Inv-loop μ-loop
-loop-again c = (omega arith, λ s old u e v ro km.
-    below-more _ _ (c .before .before .before .before .before .loop .inv .1 s old u e v ro km)
-    (looking-done s (allOf old) u _ (looking-lost s u _ old v (c .before .before .before .before .before .before .shared-slice-known2 .given _ .fits) (ro _ (omega arith)) (km .masks _ (omega arith)) (c .before .without .ensures)) (c .if1 .left)))
+loop-again c = (
+  omega arith,
+  λ s old u e v ro km.
+      below-more _ _ (c .before .before .before .before .before .loop .inv .1 s old u e v ro km)
+      (looking-done s (allOf old) u _ (looking-lost s u _ old v (c .before .before .before .before .before .before .shared-slice-known2 .given _ .fits) (ro _ (omega arith)) (km .masks _ (omega arith)) (c .before .without .ensures)) (c .if1 .left)),
+)
 
 returns-2 : tie.Need-returns-2 Inv-loop μ-loop
 returns-2 c = λ s old u e v ro km. missing-nowhere s (allOf old) u _ e (λ l h. c .before .loop .inv .1 s old u e v ro km l (omega arith))

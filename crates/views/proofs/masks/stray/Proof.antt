@@ -54,9 +54,12 @@ loop-less : tie.Need-loop-less Inv-loop μ-loop
 loop-less c = search needs
 
 loop-again : tie.Need-loop-again Inv-loop μ-loop
-loop-again c = (omega arith, λ s old t values e ro km ko.
-    below-more _ _ (c .before .before .before .before .before .loop .inv .1 s old t values e ro km ko)
-    (stray-no t _ values ko _ old (km .masks _ (omega arith)) (ro _ (omega arith)) (c .if1 .left) (c .before .strays .ensures)))
+loop-again c = (
+  omega arith,
+  λ s old t values e ro km ko.
+      below-more _ _ (c .before .before .before .before .before .loop .inv .1 s old t values e ro km ko)
+      (stray-no t _ values ko _ old (km .masks _ (omega arith)) (ro _ (omega arith)) (c .if1 .left) (c .before .strays .ensures)),
+)
 
 returns-2 : tie.Need-returns-2 Inv-loop μ-loop
 returns-2 c = λ s old t values e ro km ko. stray-nowhere s old t _ e (λ l h. c .before .loop .inv .1 s old t values e ro km ko l (omega arith))

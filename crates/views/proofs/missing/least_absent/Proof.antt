@@ -67,11 +67,14 @@ loop-less : tie.Need-loop-less Inv-loop μ-loop
 loop-less c = search needs
 
 loop-again : tie.Need-loop-again Inv-loop μ-loop
-loop-again c = (omega arith, λ s u e kk ro.
-    below-more _ _ (c .before .before .before .loop .inv .1 s u e kk ro) (⊎-elim
-    (λ w. looking-done s _ u _ (looking-all s (ofWritten (c .before .before .before .before .before .before .args .ranks)) u _ (c .before .before .before .before .before .shared-slice-known .given _ .fits) (kk .full _ (omega arith)) (ro _ (omega arith)) (w .3 .ensures)) (w .4 .left))
-    (λ w i b t. absurd (not-so (w .left) (c .before .has .ensures) t))
-    (c .if1 .came)))
+loop-again c = (
+  omega arith,
+  λ s u e kk ro.
+      below-more _ _ (c .before .before .before .loop .inv .1 s u e kk ro) (⊎-elim
+      (λ w. looking-done s _ u _ (looking-all s (ofWritten (c .before .before .before .before .before .before .args .ranks)) u _ (c .before .before .before .before .before .shared-slice-known .given _ .fits) (kk .full _ (omega arith)) (ro _ (omega arith)) (w .3 .ensures)) (w .4 .left))
+      (λ w i b t. absurd (not-so (w .left) (c .before .has .ensures) t))
+      (c .if1 .came)),
+)
 
 returns-2 : tie.Need-returns-2 Inv-loop μ-loop
 returns-2 c = λ s u e kk ro. missing-nowhere s _ u _ e (λ l b. c .before .loop .inv .1 s u e kk ro l (omega arith))

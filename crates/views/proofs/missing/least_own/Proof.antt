@@ -68,13 +68,16 @@ loop-less : tie.Need-loop-less Inv-loop μ-loop
 loop-less c = search needs
 
 loop-again : tie.Need-loop-again Inv-loop μ-loop
-loop-again c = (omega arith, λ s u t values e h few kk ko km.
-    let k = c .before .before .before .loop .k in
-    below-more _ _ (c .before .before .before .loop .inv .1 s u t values e h few kk ko km) (⊎-elim
-    (λ w. own-held s u t h k (not-left (w .5 .left) (w .4 .ensures
+loop-again c = (
+  omega arith,
+  λ s u t values e h few kk ko km.
+      let k = c .before .before .before .loop .k in
+      below-more _ _ (c .before .before .before .loop .inv .1 s u t values e h few kk ko km) (⊎-elim
+      (λ w. own-held s u t h k (not-left (w .5 .left) (w .4 .ensures
       ∙ ap₂ has (km .masks k (omega arith)) (w .2 .ensures .1 _ (omega (arith, h .few k)) (kk .full k (omega arith))))))
-    (λ w. own-unwritten s u t h k (not-so (w .left) (c .before .has .ensures ∙ sym (writes-is t _ values ko k))))
-    (c .if1 .came)))
+      (λ w. own-unwritten s u t h k (not-so (w .left) (c .before .has .ensures ∙ sym (writes-is t _ values ko k))))
+      (c .if1 .came)),
+)
 
 returns-2 : tie.Need-returns-2 Inv-loop μ-loop
 returns-2 c = λ s u t values e h few kk ko km. own-nowhere s u t h _ e (λ l b. c .before .loop .inv .1 s u t values e h few kk ko km l (omega arith))
