@@ -6,7 +6,8 @@ use mathlib.Core.Option.{Option, some, none}
 use mathlib.Core.List.{List, map}
 use lib.Dec.{leb}
 use lib.ListN.{length}
-use Rattle.search.specs.Choose.{need}
+use Rattle.search.specs.Choose.{choose, need}
+use Rattle.endian.specs.Endian.{putAt}
 use Rattle.store.specs.Store.{Store, Configuration, opening}
 use Rattle.store.specs.Update.{final, firstAlong}
 use Rattle.store.specs.Refusal.{Refusal, refuse, refusesEvent}
@@ -58,3 +59,12 @@ judged room t = need (leb (length (image (finalStore t))) room) (refused (refuse
 -- the answer for the bytes of a file and an image buffer of `room` bytes
 unfoldable pub answer : List ℕ → ℕ → Result Report
 answer bytes room = onTaken (accept bytes) (judged room)
+
+-- the image buffer afterwards: "bytes after the image keep what they had", and a refusal "changes no byte of the image buffer"
+unfoldable pub bufferAfter : List ℕ → Result Trace → List ℕ
+bufferAfter buffer (refused r) = buffer
+bufferAfter buffer (taken t) = choose (leb (length (image (finalStore t))) (length buffer)) (putAt buffer 0 (image (finalStore t))) buffer
+
+-- what stands in the image buffer after the bytes of a file were judged
+abbrev pub imageAfter : List ℕ → List ℕ → List ℕ
+imageAfter bytes buffer = bufferAfter buffer (accept bytes)

@@ -25,7 +25,7 @@ module _ (d : List ℕ) (at : ℕ) where
       let rest = drop (at + length a) d in
       let l : length front ≡ at + length a = simp (length-append, length-take-le at d (omega arith)) in
       let e : drop (at + length a + length b) (front ++ rest) ≡ drop (at + length a + length b) d =
-          ap (λ k. drop (k + length b) (front ++ rest)) (sym l) ∙ drop-append-add front rest (length b) ∙ drop-drop (length b) (at + length a) d in
+      ap (λ k. drop (k + length b) (front ++ rest)) (sym l) ∙ drop-append-add front rest (length b) ∙ drop-drop (length b) (at + length a) d in
       rw (take-at front rest (at + length a) l, e, append-assoc (take at d) a b, length-append a b, ← add-assoc at (length a) (length b))
 
   -- the same, with the number of the first bytes given

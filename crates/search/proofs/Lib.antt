@@ -1,3 +1,4 @@
 pub mod Tests
 pub mod Choose
 pub mod Search
+pub mod Steps

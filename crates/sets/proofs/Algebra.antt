@@ -1,18 +1,19 @@
 -- What each operation on sets holds, as equations of tests; sets that hold the same numbers are one number. Assumes nothing.
-use mathlib.Core.Path.{_≡_, refl, sym, ap, _∙_}
+use mathlib.Core.Path.{_≡_, refl, sym, ap, _∙_, subst}
 use mathlib.Core.Bool.{Bool, true, false, true≢false, false≢true, _&&_, _||_, not}
 use mathlib.Core.Logic.{_↔_}
 use Prim.Native.Nat.{ℕ, zero, suc, _+_, _%_, _^_, _<_, min, max}
 use native.Mathlib.Nat.{mod-eq-of-lt, one-mul, pow-suc}
 use native.Mathlib.Numerals.{one-add}
 use native.Mathlib.Omega.{arith}
+use native.Mathlib.Decide.{decLt}
 use lib.Dec.{T, eqb, eqb→eq, ltb}
-use lib.Bits.{bitAnd, bitOr, differ, or-comm, or-lt, xor-lt, and-le-l, or-shifted-r}
+use lib.Bits.{bitAnd, bitOr, differ, or-comm, or-lt, or-add-and, xor-lt, and-le-l, and-le-r, or-shifted-r}
 use lib.Pow.{pow-pos, pow-lt, mod-pow-add}
 use Rattle.search.proofs.Tests.{same, eq-test, and-is, not-is, stable, lt-is}
 use Rattle.sets.specs.Set.{Set, has, insert, single, union, without, below}
 use Rattle.sets.proofs.Digits.{digit, at-place, digit-and, digit-or, digit-xor}
-use Rattle.sets.proofs.Laws.{has-none, single-has, single-only, has-below, below-has, below-small}
+use Rattle.sets.proofs.Laws.{has-none, single-has, single-only, insert-self, has-below, below-has, below-small}
 
 -- two tests that hold together are equal
 same-test : (a b : Bool) → (T a → T b) → (T b → T a) → a ≡ b
@@ -118,3 +119,14 @@ without-word a b l = xor-lt 64 a (bitAnd a b) l (omega (arith, and-le-l a b))
 -- a set of numbers below n is all of them exactly where it holds each
 pub full-is : (n m : ℕ) → ((i : ℕ) → T (has m i) → i < n) → (m ≡ below n) ↔ ((i : ℕ) → i < n → T (has m i))
 full-is n m h = (λ e i l. below-is n m .0 e i .1 l, λ f. below-is n m .1 (λ i. (h i, f i)))
+
+-- ---- a set that grows is a larger number
+
+pub insert-larger : (t m : ℕ) → ¬ T (has m t) → m < insert t m
+insert-larger t m n = go (decLt m (insert t m))
+  where
+    go : Dec (m < insert t m) → m < insert t m
+    go (yes l) = l
+    go (no x) =
+        let e : insert t m ≡ m = omega (arith, or-add-and m (single t), and-le-r m (single t)) in
+        absurd (n (subst (λ (y : ℕ). T (has y t)) e (insert-self t m)))

@@ -46,7 +46,7 @@ note-at (some x) p t vs i h = go (ℕ-discrete i p)
     go (no n) = inl (getD-set-other vs p i _ openingVersion n)
 
 -- the writers stay, and so do the readers
-note-writer : (o : Option Value) (p t : ℕ) (vs : List Version) (i : ℕ) → i < length vs
+pub note-writer : (o : Option Value) (p t : ℕ) (vs : List Version) (i : ℕ) → i < length vs
     → getD (noteRead o p t vs) i openingVersion .writer ≡ getD vs i openingVersion .writer
 note-writer o p t vs i h = go (note-at o p t vs i h)
   where
@@ -115,7 +115,7 @@ append-last none t vs h = absurd h
 append-last (some x) t vs h = ap (λ (v : Version). v .writer) (getD-append-seam vs (record { value = x; writer = t; readers = 0 }) [] openingVersion)
 
 -- where nothing is, the list stays
-append-none : (o : Option Value) (t : ℕ) (vs : List Version) → ¬ T (isSome o) → append o t vs ≡ vs
+pub append-none : (o : Option Value) (t : ℕ) (vs : List Version) → ¬ T (isSome o) → append o t vs ≡ vs
 unfolding append isSome
 append-none none t vs h = refl
 append-none (some x) t vs h = absurd (h tt)

@@ -1,1 +1,62 @@
-// Definitions only: the store, views, what a shift or a commit changes, and when one is refused. See specs/.
+// The store as the code keeps it: its limits, named once ("Sizes of a rack", 01), and the opening one. What a store means is in specs/;
+// what each array says of a store is in crates/state (specs/Places.antt, specs/Keeps.antt).
+ghost use mathlib.Core.Path.{_≡_};
+ghost use mathlib.Core.List.{[], _∷_};
+ghost use Prim.Native.Nat.{_+_, _*_};
+ghost use lib.ListN.{replicate};
+ghost use Rattle.store.specs.Limits.{maxKeys, maxClients, maxCommits, minBytes, maxBytes};
+
+pub struct Store {
+    // Of each version its value and writer; then of each its readers.
+    pub versions: [u64; 2 * Store::VERSIONS * Store::KEYS],
+    // Of each key the mask of all its versions; then of each the set of its writers.
+    pub keys: [u64; 2 * Store::KEYS],
+    // The view of each client, a mask for each key.
+    pub views: [u64; Store::CLIENTS * Store::KEYS],
+    // Of each client the set of commits of which its view holds a version.
+    pub seen: [u64; Store::CLIENTS],
+    // Of each client the set of its commits, the set of the writers that they read from, and the least free session number.
+    pub sessions: [u64; 3 * Store::CLIENTS],
+    // Of each commit its client and session number; the commits before it in its session; the writers that it and these read from.
+    pub commits: [u64; 3 * Store::NUMBERS],
+    // The links of clauses 6 and 7.
+    pub links: [u64; 2 * Store::NUMBERS + 2 * Store::KEYS],
+}
+
+impl Store {
+    pub const KEYS: usize = 16;
+    pub const CLIENTS: usize = 16;
+    pub const COMMITS: usize = 63;
+    // A file is at most so long, and at least its own length and a header.
+    pub const BYTES: usize = 65536;
+    pub const HEADER: usize = 12;
+    // A key has at most the opening version and one by each commit; commit numbers begin with the opening transaction's, 0.
+    pub const VERSIONS: usize = 64;
+    pub const NUMBERS: usize = 64;
+
+    // The constants are the limits of specs/Limits.antt.
+    pub fn limits() -> [usize; 5]
+        ensures { λ r. ⌜ r ≡ maxKeys ∷ maxClients ∷ maxCommits ∷ maxBytes ∷ minBytes ∷ [] ⌝ }
+    {
+        [Store::KEYS, Store::CLIENTS, Store::COMMITS, Store::BYTES, Store::HEADER]
+    }
+
+    // "At the start each list is version 0: value 0, writer the opening transaction (number 0), no readers; each client's view is {0}
+    // at each key."
+    pub fn opening() -> Store
+        ensures versions { λ r. ⌜ r .versions ≡ replicate (2 * (64 * maxKeys)) 0 ⌝ }
+        ensures keys { λ r. ⌜ r .keys ≡ replicate (2 * maxKeys) 1 ⌝ }
+        ensures views { λ r. ⌜ (r .views ≡ replicate (maxClients * maxKeys) 1) × (r .seen ≡ replicate maxClients 1) ⌝ }
+        ensures commits { λ r. ⌜ (r .sessions ≡ replicate (3 * maxClients) 0) × (r .commits ≡ replicate (3 * 64) 0) × (r .links ≡ replicate (2 * 64 + 2 * maxKeys) 0) ⌝ }
+    {
+        Store {
+            versions: [0; 2 * Store::VERSIONS * Store::KEYS],
+            keys: [1; 2 * Store::KEYS],
+            views: [1; Store::CLIENTS * Store::KEYS],
+            seen: [1; Store::CLIENTS],
+            sessions: [0; 3 * Store::CLIENTS],
+            commits: [0; 3 * Store::NUMBERS],
+            links: [0; 2 * Store::NUMBERS + 2 * Store::KEYS],
+        }
+    }
+}

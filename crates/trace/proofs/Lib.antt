@@ -5,3 +5,6 @@ pub mod Decoded
 pub mod EncodeBytes
 pub mod RoundTrip
 pub mod Fits
+pub mod InForm
+pub mod Filled
+pub mod Ranks

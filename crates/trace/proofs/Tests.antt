@@ -1,14 +1,17 @@
--- What the tests of the format that are made of four tests say of the numbers. Assumes nothing.
-use Prim.Native.Nat.{ℕ, _+_, _≤_, _<_}
+-- What the tests of the format that are made of several tests say of the numbers. Assumes nothing.
+use Prim.Native.Nat.{ℕ, zero, suc, _+_, _-_, _≤_, _<_}
 use mathlib.Core.Path.{_≡_}
 use mathlib.Core.Logic.{_↔_}
 use mathlib.Core.Bool.{Bool, true, false, _&&_}
 use mathlib.Core.List.{List}
+use native.Mathlib.Omega.{arith}
+use native.Mathlib.Numerals.{add-one}
 use lib.Dec.{T, eqb, ltb, leb, eqb→eq, ltb→lt, leb→le, lt→ltb, le→leb}
 use mir.Facts.{yes-eqb}
+use borrow.Author.Tests.{le-leb, lt-ltb, eq-eqb}
 use Rattle.endian.specs.Endian.{leAt}
 use Rattle.store.specs.Limits.{maxKeys, maxClients}
-use Rattle.trace.specs.Format.{Header, rankAt, operationFits, withinLimits}
+use Rattle.trace.specs.Format.{Header, rankAt, operationFits, operationsFit, withinLimits}
 
 four-tests : (a b c d : Bool) → T ((a && b) && (c && d)) ↔ (T a × T b × T c × T d)
 four-tests false b c d = (λ t. absurd t, λ h. absurd (h .0))
@@ -26,6 +29,30 @@ operationFits-is s at keys low =
       λ h. tests .1 (le→leb _ _ (h .0), lt→ltb _ _ (h .1), yes-eqb (h .2), le→leb _ _ (h .3)),
     )
 
+-- once the other three hold, it is the test of the order
+pub operationFits-order : (s : List ℕ) (at keys low : ℕ) → leAt s at 1 ≤ 1 → leAt s (at + 1) 1 < keys → leAt s (at + 2) 2 ≡ 0
+    → leb low (rankAt s at) ≡ operationFits s at keys low
+unfolding operationFits
+operationFits-order s at keys low access key zeros = rw (le-leb _ _ access, lt-ltb _ _ key, eq-eqb _ _ zeros)
+
+-- operations in turn: the first fits, and the others are tested from above its rank
+pub operationsFit-next : (s : List ℕ) (at keys low left : ℕ) {above : ℕ} → 0 < left → operationFits s at keys low ≡ true → above ≡ rankAt s at + 1
+    → operationsFit s at keys low left ≡ operationsFit s (at + 8) keys above (left - 1)
+unfolding operationsFit
+operationsFit-next s at keys low zero some e a = absurd (omega arith)
+operationsFit-next s at keys low (suc n) some e a = let others : suc n - 1 ≡ n = omega arith in rw (e, a, add-one (rankAt s at), others)
+
+-- the first does not
+pub operationsFit-stop : (s : List ℕ) (at keys low left : ℕ) → 0 < left → operationFits s at keys low ≡ false → operationsFit s at keys low left ≡ false
+unfolding operationsFit
+operationsFit-stop s at keys low zero some e = absurd (omega arith)
+operationsFit-stop s at keys low (suc n) some e = rw e
+
+-- there are none
+pub operationsFit-none : (s : List ℕ) (at keys low left : ℕ) → left ≡ 0 → operationsFit s at keys low left ≡ true
+unfolding operationsFit
+operationsFit-none s at keys low left e = rw e
+
 -- "Keys 1 to 16, clients 1 to 16"
 pub withinLimits-is : (h : Header)
     → T (withinLimits h) ↔ ((1 ≤ h .keys) × (h .keys ≤ maxKeys) × (1 ≤ h .clients) × (h .clients ≤ maxClients))
@@ -34,3 +61,7 @@ withinLimits-is h =
       λ t. let (a, b, c, d) = tests .0 t in (ltb→lt _ _ a, leb→le _ _ b, ltb→lt _ _ c, leb→le _ _ d),
       λ l. tests .1 (lt→ltb _ _ (l .0), le→leb _ _ (l .1), lt→ltb _ _ (l .2), le→leb _ _ (l .3)),
     )
+
+-- once the other three hold, it is the test of the clients
+pub withinLimits-last : (h : Header) → 1 ≤ h .keys → h .keys ≤ maxKeys → 1 ≤ h .clients → leb (h .clients) maxClients ≡ withinLimits h
+withinLimits-last h some-key few-keys some-client = rw (lt-ltb _ _ some-key, le-leb _ _ few-keys, lt-ltb _ _ some-client)

@@ -1,3 +1,4 @@
 pub mod Result
 pub mod Format
 pub mod Encode
+pub mod Meaning

@@ -1,0 +1,40 @@
+-- A commit that is made on the arrays. Assumes nothing.
+use Prim.Native.Nat.{ℕ, _*_, _≤_, _<_}
+use mathlib.Core.Path.{_≡_}
+use mathlib.Core.List.{List}
+use Rattle.sets.specs.Set.{Set}
+use Rattle.store.specs.Limits.{maxKeys, maxClients, maxCommits}
+use Rattle.store.specs.Store.{View, Store, nextNumber, Commit}
+use Rattle.growth.proofs.Made.{Made}
+use Rattle.growth.proofs.Ordered.{Ordered}
+use Rattle.growth.proofs.Links.{FromSession, FromRead, FromWrite, ToLater}
+use Rattle.state.specs.Keeps.{IsSet, RowIs, KeepsOperations, KeepsVersions, KeepsKeys, KeepsSessions, KeepsCommits, KeepsLinks}
+use Rattle.making.specs.declared.Led.{Led}
+
+-- commit c of a client, on view u of store s; the store, the view and the operations are in the arrays
+pub record CommitGiven (s : Store) (u : View) (c : Commit) (versions keys views sessions values : List ℕ) (client : ℕ) (ranks : Set) (n : ℕ) : Type 0 where
+  pub made : Made s u c
+  pub ordered : Ordered s
+  pub keys-are : s .keys ≡ n
+  pub room-left : nextNumber s ≤ maxCommits
+  pub client-is : c .client ≡ client
+  pub in-versions : KeepsVersions s versions
+  pub in-keys : KeepsKeys s keys
+  pub row : RowIs n views client u
+  pub in-sessions : KeepsSessions s sessions
+  pub operations : KeepsOperations c ranks values
+
+-- the sets of commits are those that links lead from and to
+pub record LedSays (s : Store) (u : View) (c : Commit) (r : Led) : Type 0 where
+  pub by-session : IsSet (r .before) (FromSession s c)
+  pub by-read : IsSet (r .sources) (FromRead s u c)
+  pub by-write : IsSet (r .earlier) (FromWrite s c)
+  pub to-later : IsSet (r .over) (ToLater s u c)
+
+-- the arrays of the store keep it
+pub record MadeIn (s : Store) (versions keys sessions commits links : List ℕ) : Type 0 where
+  pub in-versions : KeepsVersions s versions
+  pub in-keys : KeepsKeys s keys
+  pub in-sessions : KeepsSessions s sessions
+  pub in-commits : KeepsCommits s commits
+  pub in-links : KeepsLinks s links

@@ -1,0 +1,31 @@
+-- A set that is gathered key by key: the loop joins to it what each key adds. Assumes nothing.
+use Prim.Native.Nat.{ℕ, _+_, _<_}
+use mathlib.Core.Path.{_≡_, sym, subst}
+use mathlib.Core.Logic.{_⊎_, inl, inr}
+use native.Mathlib.Omega.{arith}
+use native.Mathlib.Decide.{ℕ-discrete}
+use Rattle.sets.specs.Set.{Set, union}
+use Rattle.state.specs.Keeps.{IsSet}
+use Rattle.state.proofs.Sets.{isSet-as, isSet-none, isSet-union}
+
+-- what the keys below k add
+abbrev pub UpTo : (ℕ → ℕ → Type 0) → ℕ → ℕ → Type 0
+UpTo P k a = (q : ℕ) × (q < k) × P q a
+
+module _ (P : ℕ → ℕ → Type 0) where
+  pub gather-none : IsSet 0 (UpTo P 0)
+  gather-none = isSet-none (λ t (q, l, x). omega arith)
+
+  pub gather-more : (k : ℕ) (found m : Set) {next : Set} → next ≡ union found m → IsSet found (UpTo P k) → IsSet m (P k) → IsSet next (UpTo P (k + 1))
+  gather-more k found m e h g = subst (λ (x : ℕ). IsSet x (UpTo P (k + 1))) (sym e) (isSet-as (union found m) (λ t. (into t, out t)) (isSet-union found m h g))
+    where
+      into : (t : ℕ) → UpTo P k t ⊎ P k t → UpTo P (k + 1) t
+      into t (inl (q, l, x)) = (q, omega arith, x)
+      into t (inr x) = (k, omega arith, x)
+
+      out : (t : ℕ) → UpTo P (k + 1) t → UpTo P k t ⊎ P k t
+      out t (q, l, x) = go (ℕ-discrete q k)
+        where
+          go : Dec (q ≡ k) → UpTo P k t ⊎ P k t
+          go (yes e) = inr (subst (λ (i : ℕ). P i t) e x)
+          go (no n) = inl (q, omega arith, x)

@@ -1,0 +1,7 @@
+pub mod Reading
+pub mod Gather
+pub mod PerKey
+pub mod Rows
+pub mod Noted
+pub mod Appended
+pub mod Kept

@@ -1,0 +1,116 @@
+-- A read noted in the arrays is noted in the store. Assumes nothing.
+use Prim.Native.Nat.{ℕ, _+_, _*_, _≤_, _<_}
+use mathlib.Core.Path.{_≡_, sym, ap, _∙_, subst}
+use mathlib.Core.Bool.{Bool, true, false}
+use mathlib.Core.Logic.{_≢_}
+use mathlib.Core.List.{List}
+use native.Mathlib.Omega.{arith}
+use native.Mathlib.Decide.{ℕ-discrete}
+use lib.ListN.{length, getD, set, length-set}
+use lib.Seq.{getD-set-same, getD-set-other}
+use Rattle.search.specs.Choose.{choose, when}
+use Rattle.sets.specs.Set.{has, insert, below, highest}
+use Rattle.store.specs.Limits.{maxKeys}
+use Rattle.store.specs.Store.{Key, VersionNumber, CommitNumber, Value, Version, openingVersion, View, Store, count, version, read, Commit}
+use Rattle.store.specs.Update.{valueOf, newest, readBy, noteRead}
+use Rattle.store.proofs.Updated.{Wrote, note-length, note-writer}
+use Rattle.state.specs.Places.{perKey, headPlace, readersPlace}
+use Rattle.state.specs.Keeps.{KeepsVersions, KeepsKeys}
+use Rattle.state.proofs.Sets.{isSet-as}
+use Rattle.operations.specs.Given.{Given}
+use Rattle.operations.specs.Change.{readerAdded, readsNoted}
+use Rattle.operations.proofs.Reading.{seen-exists}
+use Rattle.operations.proofs.Rows.{VersionAt, Row, rows-of, of-rows, row-other, Passed, pass-none, pass-key}
+
+-- one version of a key gains a reader
+module _ (before : List ℕ) (k : Key) (v : VersionNumber) (t : CommitNumber) (vs : List Version) (b : k < maxKeys) (l : v < length vs) (r : Row before k vs) where
+  abbrev place : ℕ
+  place = readersPlace k v
+
+  reader-added : Row (readerAdded before place t) k (set vs v (readBy t (getD vs v openingVersion)))
+  reader-added = record {
+    room = length-set before place _ ∙ r .room;
+    few = omega (arith, length-set vs v (readBy t (getD vs v openingVersion)), r .few);
+    each = λ i m. go i (omega (arith, length-set vs v (readBy t (getD vs v openingVersion)))) (ℕ-discrete i v);
+  }
+    where
+      go : (i : ℕ) → i < length vs → Dec (i ≡ v) → VersionAt (readerAdded before place t) k i (getD (set vs v (readBy t (getD vs v openingVersion))) i openingVersion)
+      go i m (yes e) =
+          let o = r .each v l in
+          let f = r .few in
+          rw (e, getD-set-same vs v (readBy t (getD vs v openingVersion)) openingVersion l) record {
+            head = getD-set-other before place (headPlace k v) _ 0 (λ q. omega arith) ∙ o .head;
+            readers = getD-set-same before place _ 0 (omega (arith, r .room)) ∙ ap (insert t) (o .readers);
+            fits = o .fits;
+          }
+      go i m (no e) =
+          let o = r .each i m in
+          let f = r .few in
+          rw (getD-set-other vs v i (readBy t (getD vs v openingVersion)) openingVersion e) record {
+            head = getD-set-other before place (headPlace k i) _ 0 (λ q. omega arith) ∙ o .head;
+            readers = getD-set-other before place (readersPlace k i) _ 0 (λ q. e (omega arith)) ∙ o .readers;
+            fits = o .fits;
+          }
+
+-- where the key is read
+noted-row : (before : List ℕ) (k : Key) (v : VersionNumber) (t : CommitNumber) (vs : List Version) → k < maxKeys → v < length vs → (w : Bool) (x : Value)
+    → Row before k vs → Row (choose w (readerAdded before (readersPlace k v) t) before) k (noteRead (when w x) v t vs)
+unfolding choose when noteRead
+noted-row before k v t vs b l true x r = reader-added before k v t vs b l r
+noted-row before k v t vs b l false x r = r
+
+noted-other : (before : List ℕ) (k : Key) (v : VersionNumber) (t : CommitNumber) → k < maxKeys → v < perKey → (w : Bool)
+    → (q : Key) → q ≢ k → q < maxKeys → (vs : List Version) → Row before q vs → Row (choose w (readerAdded before (readersPlace k v) t) before) q vs
+unfolding choose
+noted-other before k v t b l true q n m vs r = row-other before (readersPlace k v) _ q (λ i o. (λ e. omega arith, λ e. n (omega arith))) r
+noted-other before k v t b l false q n m vs r = r
+
+-- ---- the whole loop
+
+-- the keys below k, of n, have their reads by commit t noted
+abbrev pub ReadsPassed : Store → View → Commit → CommitNumber → ℕ → ℕ → List ℕ → Type 0
+ReadsPassed s u c t n k versions = Passed Row (s .versions) (readsNoted s u c t .versions) n k versions
+
+module _ {s : Store} {u : View} {c : Commit} {versions views : List ℕ} {base : ℕ} {values : List ℕ} {ranks n : ℕ}
+    (g : Given s u c versions views base values ranks n) (t : CommitNumber) where
+  pub no-reads : ReadsPassed s u c t n 0 versions
+  no-reads =
+      pass-none Row (s .versions) (readsNoted s u c t .versions) n versions
+      (λ q l. rows-of (g .in-versions) (λ k. omega (arith, g .sound .few k, g .room-left)) q)
+
+  pub read-noted : n ≤ maxKeys → (k : ℕ) (before : List ℕ) {after : List ℕ} → k < n
+      → after ≡ choose (has ranks (2 * k)) (readerAdded before (readersPlace k (highest (getD views (base + k) 0))) t) before
+      → ReadsPassed s u c t n k before → ReadsPassed s u c t n (k + 1) after
+  read-noted small k before {after} l e p =
+      let x : newest u k < count s k = seen-exists g k l in
+      let y : count s k ≤ perKey = omega (arith, g .sound .few k, g .room-left) in
+      subst (λ (a : List ℕ). ReadsPassed s u c t n (k + 1) a) (sym (rw (g .row k l) at e))
+      (pass-key Row (s .versions) (readsNoted s u c t .versions) n k before _ l p
+      (λ q m o vs r. noted-other before k (newest u k) t (omega arith) (omega arith) (has ranks (2 * k)) q m (omega arith) vs r)
+      (λ r. rw (g .operations .reads k) (noted-row before k (newest u k) t (s .versions k) (omega arith) x (has ranks (2 * k)) _ r)))
+
+  pub reads-noted : (k : ℕ) (a : List ℕ) → n ≤ k → length a ≡ 2 * (perKey * maxKeys) → ReadsPassed s u c t n k a → KeepsVersions (readsNoted s u c t) a
+  reads-noted k a l room p =
+      of-rows (readsNoted s u c t) a n room
+      (λ q i m. omega (arith, g .sound .only-keys q i (rw (note-length (valueOf read (c .operations) q) (newest u q) t (s .versions q)) at m), g .keys-are))
+      (λ q m. p .done q (omega arith))
+
+  -- versions keep their writers
+  pub keys-noted : {keys : List ℕ} → KeepsKeys s keys → KeepsKeys (readsNoted s u c t) keys
+  keys-noted h = record {
+    room = h .room;
+    full = λ k l. h .full k l ∙ ap below (sym (noted-length k));
+    writers = λ k l. isSet-as _ (λ a. (λ (i, w). (i, into a k i w), λ (i, w). (i, out a k i w))) (h .writers k l);
+  }
+    where
+      noted-length : (k : Key) → count (readsNoted s u c t) k ≡ count s k
+      noted-length k = note-length (valueOf read (c .operations) k) (newest u k) t (s .versions k)
+
+      same-writer : (k i : ℕ) → i < count s k → version (readsNoted s u c t) k i .writer ≡ version s k i .writer
+      same-writer k i l = note-writer (valueOf read (c .operations) k) (newest u k) t (s .versions k) i l
+
+      into : (a k i : ℕ) → Wrote s a k i → Wrote (readsNoted s u c t) a k i
+      into a k i (l, e) = (rw (noted-length k) l, same-writer k i l ∙ e)
+
+      out : (a k i : ℕ) → Wrote (readsNoted s u c t) a k i → Wrote s a k i
+      out a k i (l, e) = let m : i < count s k = rw (noted-length k) at l in (m, sym (same-writer k i m) ∙ e)

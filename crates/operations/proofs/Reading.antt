@@ -1,0 +1,115 @@
+-- The version that a read sees: what the arrays say of it, and when the read is wrong. Assumes nothing.
+use Prim.Native.Nat.{ℕ, _+_, _-_, _*_, _/_, _%_, _^_, _≤_, _<_}
+use mathlib.Core.Path.{_≡_, refl, sym, ap, _∙_}
+use mathlib.Core.Bool.{Bool, true, false, _&&_, not}
+use mathlib.Core.Option.{some, none}
+use mathlib.Core.List.{List}
+use native.Mathlib.Omega.{arith}
+use lib.Dec.{T, eqb}
+use lib.Pow.{pow-pos}
+use lib.Count.{leadingZeros}
+use lib.ListN.{getD}
+use Rattle.search.specs.Choose.{isSome, mapSome, when}
+use Rattle.search.proofs.Tests.{true-T}
+use Rattle.search.proofs.Search.{least-found, least-none}
+use Rattle.sets.specs.Set.{Set, has, highest}
+use Rattle.sets.proofs.Laws.{has-large, has-highest}
+use Rattle.store.specs.Store.{Key, Value, Version, View, Store, count, version, nextNumber, read, Commit}
+use Rattle.store.specs.Update.{reads, writes, newest}
+use Rattle.store.specs.Refusal.{differs, wrongAt, wrongRead}
+use Rattle.state.specs.Places.{headPlace, packed}
+use Rattle.state.specs.Keeps.{KeepsOperations}
+use Rattle.operations.specs.Given.{Given}
+
+-- no number is above all of an empty mask's
+pub highest-none : highest 0 ≡ 0
+unfolding highest leadingZeros
+highest-none = refl
+
+-- a test that fails does not hold
+pub false-T : (b : Bool) → b ≡ false → ¬ T b
+false-T b e t = rw e at t
+
+-- ---- two numbers in one word
+
+pub low-half : (low high : ℕ) → low < 2 ^ 32 → packed low high % 2 ^ 32 ≡ low
+low-half low high l = omega arith
+
+pub high-half : (low high : ℕ) → low < 2 ^ 32 → packed low high / 2 ^ 32 ≡ high
+high-half low high l = omega arith
+
+-- me << 32
+pub high-shifted : (high : ℕ) → high < 64 → high * 2 ^ 32 % 2 ^ 64 ≡ high * 2 ^ 32
+high-shifted high l = omega arith
+
+-- ---- operations by their ranks
+
+some-when : {A : Type 0} (b : Bool) (a : A) → isSome (when b a) ≡ b
+unfolding isSome when
+some-when true a = refl
+some-when false a = refl
+
+differs-when : (b : Bool) (x : Value) (v : Version) → differs (when b x) v ≡ (b && not (eqb x (v .value)))
+unfolding differs when
+differs-when true x v = refl
+differs-when false x v = refl
+
+module _ {c : Commit} {ranks : Set} {values : List ℕ} (o : KeepsOperations c ranks values) (k : Key) where
+  pub reads-rank : reads c k ≡ has ranks (2 * k)
+  reads-rank = ap isSome (o .reads k) ∙ some-when (has ranks (2 * k)) _
+
+  pub writes-rank : writes c k ≡ has ranks (2 * k + 1)
+  writes-rank = ap isSome (o .writes k) ∙ some-when (has ranks (2 * k + 1)) _
+
+-- ---- the version that is seen
+
+module _ {s : Store} {u : View} {c : Commit} {versions views : List ℕ} {base : ℕ} {values : List ℕ} {ranks n : ℕ}
+    (g : Given s u c versions views base values ranks n) where
+  module _ (k : Key) (l : k < n) where
+    -- the version that is seen is there
+    pub seen-exists : newest u k < count s k
+    seen-exists =
+        let b : 2 ^ 0 ≤ u k = has-large (u k) 0 (g .view .opened k (omega (arith, g .keys-are))) in
+        g .view .exist k (newest u k) (has-highest (u k) (omega (arith, pow-pos 0)) (g .view .word k))
+
+    -- its head, where the code looks for it
+    abbrev pub headSeen : ℕ
+    headSeen = getD versions (headPlace k (highest (getD views (base + k) 0))) 0
+
+    head-seen : headSeen ≡ packed (version s k (newest u k) .value) (version s k (newest u k) .writer)
+    head-seen = rw (g .row k l) (g .in-versions .heads k (newest u k) seen-exists)
+
+    pub value-seen : headSeen % 2 ^ 32 ≡ version s k (newest u k) .value
+    value-seen = rw head-seen (low-half _ _ (g .in-versions .value-fits k (newest u k) seen-exists))
+
+    pub writer-seen : headSeen / 2 ^ 32 % 64 ≡ version s k (newest u k) .writer
+    writer-seen =
+        let h : headSeen / 2 ^ 32 ≡ version s k (newest u k) .writer = rw head-seen (high-half _ _ (g .in-versions .value-fits k (newest u k) seen-exists)) in
+        let b : version s k (newest u k) .writer < nextNumber s = g .sound .writers _ k (newest u k) (seen-exists, refl) in
+        let m : nextNumber s ≤ 63 = g .room-left in
+        omega arith
+
+    -- ---- wrong reads
+
+    pub wrong-is : wrongAt s u c k ≡ (has ranks (2 * k) && not (eqb (getD values (2 * k) 0) (headSeen % 2 ^ 32)))
+    wrong-is = rw (g .operations .reads k, differs-when (has ranks (2 * k)) (getD values (2 * k) 0) (version s k (newest u k)), value-seen)
+
+    pub wrong-unread : has ranks (2 * k) ≡ false → false ≡ wrongAt s u c k
+    wrong-unread e = rw (wrong-is, e)
+
+    pub wrong-read : has ranks (2 * k) ≡ true → {h : ℕ} → h ≡ headSeen → not (eqb (getD values (2 * k) 0) (h % 2 ^ 32)) ≡ wrongAt s u c k
+    wrong-read e q = rw (wrong-is, e, q)
+
+    -- the first wrong read
+    pub wrong-found : ((q : Key) → q < k → ¬ T (wrongAt s u c q)) → true ≡ wrongAt s u c k → {v : ℕ} → v ≡ highest (getD views (base + k) 0)
+        → some (record { key = k; version = v }) ≡ wrongRead s u c
+    unfolding wrongRead mapSome
+    wrong-found before here e =
+        rw (e, g .row k l)
+        (sym (ap (mapSome (λ q. record { key = q; version = newest u q }))
+        (least-found (s .keys) (wrongAt s u c) k (omega (arith, g .keys-are)) (true-T _ (sym here)) before)))
+
+  pub wrong-none : ((q : Key) → q < n → ¬ T (wrongAt s u c q)) → none ≡ wrongRead s u c
+  unfolding wrongRead mapSome
+  wrong-none h =
+      sym (ap (mapSome (λ q. record { key = q; version = newest u q })) (least-none (s .keys) (wrongAt s u c) .1 (λ q l. h q (omega (arith, g .keys-are)))))

@@ -1,0 +1,4 @@
+pub mod Walked
+pub mod Joined
+pub mod Added
+pub mod Kept

@@ -1,0 +1,171 @@
+// "A record is either read whole or the file is refused there" (01, The trace file). Within a record the checks come in the order
+// of "Bench codes": "4 bytes left, kind 4, rest of 3, then 6, 7".
+ghost use mathlib.Core.Path.{_≡_};
+ghost use Prim.Native.Nat.{_+_, _*_, _≤_, _<_};
+ghost use lib.ListN.{length};
+ghost use Rattle.store.specs.Limits.{maxKeys};
+ghost use Rattle.trace.specs.Format.{operationFits, operationsFit, shiftAt, commitOf, commitAt};
+ghost use Rattle.trace.specs.Meaning.{whyNumber, Answers, RecordSays};
+
+// Why a record is refused; whyNumber gives the code.
+pub enum Why {
+    Length,
+    Kind,
+    Client,
+    Body,
+}
+
+// A record that was read whole, or why it was not. `masks`, `operations` and `next` are places, counted from the file's start.
+pub enum Record {
+    Shift {
+        client: usize,
+        masks: usize,
+        next: usize,
+    },
+    Commit {
+        client: usize,
+        count: usize,
+        session: u32,
+        operations: usize,
+        masks: usize,
+        next: usize,
+    },
+    Refused(Why),
+}
+
+// The code of a refusal.
+pub fn number(w: Why) -> usize
+    ensures { λ r. ⌜ r ≡ whyNumber w ⌝ }
+{
+    match w {
+        Why::Length => 3,
+        Why::Kind => 4,
+        Why::Client => 6,
+        Why::Body => 7,
+    }
+}
+
+// "0 read or 1 write, key u8, zero u16, value u32": the operation at a place fits, and its rank is `low` or more.
+fn operation_fits(s: &[u8], at: usize, keys: usize, low: usize) -> bool
+    requires { ⌜ at + 8 ≤ length (now s) ⌝ }
+    ensures { λ r. ⌜ r ≡ operationFits (now (s .entry)) at keys low ⌝ }
+{
+    let access = endian::byte_at(s, at);
+    let key = endian::byte_at(s, at + 1);
+    let spare = endian::u16_at(s, at + 2);
+    if 1 < access {
+        return false;
+    }
+    if keys <= key {
+        return false;
+    }
+    if spare != 0 {
+        return false;
+    }
+    low <= 2 * key + access
+}
+
+// "Operations rise strictly by key and then kind": the m operations from a place on fit, each of a higher rank than the one before.
+fn operations_fit(s: &[u8], start: usize, keys: usize, m: usize) -> bool
+    requires { ⌜ (start + 8 * m ≤ length (now s)) × (m < 256) ⌝ }
+    ensures { λ r. ⌜ r ≡ operationsFit (now (s .entry)) start keys 0 m ⌝ }
+{
+    let mut low: usize = 0;
+    let mut at = start;
+    let mut left = m;
+    while 0 < left {
+        if operation_fits(s, at, keys, low) {
+            low = 2 * endian::byte_at(s, at + 1) + endian::byte_at(s, at) + 1;
+            at = at + 8;
+            left = left - 1;
+        } else {
+            return false;
+        }
+    }
+    true
+}
+
+// "Kind 2, view shift, length 6 + 8K for K keys: client u8, zero u8, K view masks u64."
+fn shift_at(s: &[u8], at: usize, keys: usize, clients: usize) -> Record
+    requires { ⌜ (at + 4 ≤ length (now s)) × (keys ≤ maxKeys) ⌝ }
+    ensures { λ r. ⌜ Answers (now (s .entry)) keys clients (λ h. shiftAt (now (s .entry)) h at) r ⌝ }
+{
+    let size = 6 + 8 * keys;
+    if endian::u16_at(s, at) as usize != size {
+        return Record::Refused(Why::Length);
+    }
+    if s.len() < at + size {
+        return Record::Refused(Why::Length);
+    }
+    let client = endian::byte_at(s, at + 4);
+    if clients <= client {
+        return Record::Refused(Why::Client);
+    }
+    if endian::byte_at(s, at + 5) != 0 {
+        return Record::Refused(Why::Body);
+    }
+    Record::Shift {
+        client,
+        masks: at + 6,
+        next: at + size,
+    }
+}
+
+// A commit of m operations: what is tested of it once m is read.
+fn commit_of(s: &[u8], at: usize, keys: usize, clients: usize, m: usize) -> Record
+    requires { ⌜ (at + 6 ≤ length (now s)) × (keys ≤ maxKeys) × (m < 256) ⌝ }
+    ensures { λ r. ⌜ Answers (now (s .entry)) keys clients (λ h. commitOf (now (s .entry)) h at m) r ⌝ }
+{
+    let size = 10 + 8 * m + 8 * keys;
+    if endian::u16_at(s, at) as usize != size {
+        return Record::Refused(Why::Length);
+    }
+    if s.len() < at + size {
+        return Record::Refused(Why::Length);
+    }
+    let client = endian::byte_at(s, at + 4);
+    if clients <= client {
+        return Record::Refused(Why::Client);
+    }
+    if operations_fit(s, at + 10, keys, m) {
+        Record::Commit {
+            client,
+            count: m,
+            session: endian::u32_at(s, at + 6),
+            operations: at + 10,
+            masks: at + (10 + 8 * m),
+            next: at + size,
+        }
+    } else {
+        Record::Refused(Why::Body)
+    }
+}
+
+// "Kind 3, commit, length 10 + 8m + 8K: client u8, m u8, session number u32, m operations, K masks of the view after the commit."
+fn commit_at(s: &[u8], at: usize, keys: usize, clients: usize) -> Record
+    requires { ⌜ (at + 4 ≤ length (now s)) × (keys ≤ maxKeys) ⌝ }
+    ensures { λ r. ⌜ Answers (now (s .entry)) keys clients (λ h. commitAt (now (s .entry)) h at) r ⌝ }
+{
+    if s.len() <= at + 5 {
+        return Record::Refused(Why::Length);
+    }
+    commit_of(s, at, keys, clients, endian::byte_at(s, at + 5))
+}
+
+// The record at a place of the file.
+pub fn record_at(s: &[u8], at: usize, keys: usize, clients: usize) -> Record
+    requires { ⌜ (at ≤ length (now s)) × (keys ≤ maxKeys) ⌝ }
+    ensures { λ r. ⌜ RecordSays (now (s .entry)) at keys clients r ⌝ }
+{
+    if s.len() < at + 4 {
+        return Record::Refused(Why::Length);
+    }
+    let kind = endian::u16_at(s, at + 2);
+    if kind == 2 {
+        return shift_at(s, at, keys, clients);
+    }
+    if kind == 3 {
+        return commit_at(s, at, keys, clients);
+    }
+    Record::Refused(Why::Kind)
+}

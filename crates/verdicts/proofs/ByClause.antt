@@ -1,0 +1,128 @@
+-- Each clause on sets of commits: it passes exactly where what it wants and what is lacking have nothing in common; and the set of the failing clauses,
+-- made clause by clause. Assumes nothing.
+use Prim.Native.Nat.{ℕ, suc, _≤_, _<_}
+use mathlib.Core.Path.{_≡_, refl, sym, ap, _∙_, subst}
+use mathlib.Core.Logic.{_⊎_, inl, inr, _↔_}
+use mathlib.Core.Option.{Option, none}
+use native.Mathlib.Omega.{arith}
+use native.Mathlib.Decide.{ℕ-discrete}
+use lib.Dec.{T}
+use lib.Bits.{bitAnd}
+use Rattle.search.proofs.Tests.{both}
+use Rattle.sets.specs.Set.{Set, has, insert}
+use Rattle.sets.proofs.Laws.{has-none, insert-has, has-insert, insert-self}
+use Rattle.sets.proofs.Algebra.{empty-is}
+use Rattle.store.specs.Store.{CommitNumber, View, Store, Commit}
+use Rattle.growth.proofs.Views.{Lacking}
+use Rattle.growth.proofs.Clauses.{LacksOneOf, monotonic-writes-is, write-follows-reads-is, update-atomic-is, consistent-prefix-is, snapshot-isolation-is, serialisable-is}
+use Rattle.levels.specs.Clause.{Clause, monotonicReads, readYourWrites, monotonicWrites, writesFollowReads, updateAtomic, consistentPrefix, snapshotIsolation, serialisability, clauseNumber, missingBy}
+use Rattle.levels.proofs.Clauses.{Says, clause-is}
+use Rattle.state.specs.declared.Found.{Found}
+use Rattle.state.specs.Keeps.{IsSet}
+use Rattle.state.specs.Answers.{placeOf}
+use Rattle.verdicts.specs.declared.Wanted.{Wanted}
+use Rattle.verdicts.specs.Wants.{Lacks, Wants}
+use Rattle.verdicts.specs.AtHand.{AtHand}
+use Rattle.verdicts.specs.Verdicts.{FailingClauses}
+use Rattle.views.proofs.Words.{both-is}
+use Rattle.verdicts.proofs.FirstFailing.{same-clause, number-range}
+
+-- the other way round
+back : {A B : Type 0} → A ↔ B → B ↔ A
+back (f, g) = (g, f)
+
+-- no commit of W is lacking where the two sets have nothing in common
+none-lacking : (s : Store) (u : View) (W : CommitNumber → Type 0) (m lacking : Set) → IsSet lacking (Lacking s u) → (Lacks s u → IsSet m W)
+    → (bitAnd m lacking ≡ 0) ↔ (¬ LacksOneOf s u W)
+none-lacking s u W m lacking is h = let e = empty-is (bitAnd m lacking) in (
+  λ z (a, w, x). e .0 z a (both-is m lacking a .1 (h (a, x) a .1 w, is a .1 x)),
+  λ n. e .1 (λ a t. let y = both-is m lacking a .0 t in let x = is a .0 (y .1) in n (a, h (a, x) a .0 (y .0), x)),
+)
+
+module _ (s : Store) (u : View) (c : Commit) (w : Wanted) (lost own : Found) (h : AtHand s u c w lost own) where
+  -- a clause passes where a number is 0
+  abbrev Passes : ℕ → Clause → Type 0
+  Passes met x = (met ≡ 0) ↔ (missingBy s u c x ≡ none)
+
+  said : (x : Clause) → Says s u c x ↔ (missingBy s u c x ≡ none)
+  said x = back (clause-is s (h .sound) u (h .view) c (h .sound-after) x)
+
+  found-passes : (f : Found) (x : Clause) → placeOf f ≡ missingBy s u c x → (met : ℕ) → (met ≡ 0) ↔ (placeOf f ≡ none) → Passes met x
+  found-passes f x e met g = both g (λ z. sym e ∙ z, λ z. e ∙ z)
+
+  set-passes : (x : Clause) (W : CommitNumber → Type 0) (m : Set) → (Lacks s u → IsSet m W) → Says s u c x ↔ (¬ LacksOneOf s u W) → Passes (bitAnd m (w .lacking)) x
+  set-passes x W m is e = both (none-lacking s u W m (w .lacking) (h .wants .lacking) is) (both (back e) (said x))
+
+  lacking-passes : Passes (w .lacking) serialisability
+  lacking-passes =
+      both
+      (λ z (a, x). empty-is (w .lacking) .0 z a (h .wants .lacking a .1 x), λ n. empty-is (w .lacking) .1 (λ a t. n (a, h .wants .lacking a .0 t)))
+      (both (back (serialisable-is s u (h .view))) (said serialisability))
+
+-- ---- the set of the failing clauses
+
+-- the failing clauses with numbers below j
+record FailingBelow (s : Store) (u : View) (c : Commit) (j : ℕ) (m : Set) : Type 0 where
+  is : (i : ℕ) → T (has m i) ↔ ((i < j) × (x : Clause) × (clauseNumber x ≡ i) × (¬ (missingBy s u c x ≡ none)))
+
+-- what `mark` ensures
+abbrev Marks : Set → ℕ → ℕ → Set → Type 0
+Marks set clause met r = (met ≡ 0 → r ≡ set) × (¬ (met ≡ 0) → r ≡ insert clause set)
+
+module _ {s : Store} {u : View} {c : Commit} where
+  none-below-1 : FailingBelow s u c 1 0
+  none-below-1 = record { is = λ i. (λ t. absurd (has-none i t), λ (l, x, e, n). absurd (omega (arith, number-range x))) }
+
+  marks : (x : Clause) {m r : Set} (met : ℕ) → FailingBelow s u c (clauseNumber x) m → (met ≡ 0) ↔ (missingBy s u c x ≡ none) → Marks m (clauseNumber x) met r
+      → FailingBelow s u c (suc (clauseNumber x)) r
+  marks x {m} {r} met below passes is = go (ℕ-discrete met 0)
+    where
+      Fails : ℕ → ℕ → Type 0
+      Fails j i = (i < j) × (y : Clause) × (clauseNumber y ≡ i) × (¬ (missingBy s u c y ≡ none))
+
+      later : (i : ℕ) → Fails (clauseNumber x) i → Fails (suc (clauseNumber x)) i
+      later i (l, y, e, n) = (omega arith, y, e, n)
+
+      earlier : (i : ℕ) → ¬ (i ≡ clauseNumber x) → Fails (suc (clauseNumber x)) i → Fails (clauseNumber x) i
+      earlier i q (l, y, e, n) = (omega arith, y, e, n)
+
+      -- the clause of the number at hand
+      at : (i : ℕ) → i ≡ clauseNumber x → Fails (suc (clauseNumber x)) i → ¬ (missingBy s u c x ≡ none)
+      at i q (l, y, e, n) = subst (λ (z : Clause). ¬ (missingBy s u c z ≡ none)) (same-clause y x (e ∙ q)) n
+
+      go : Dec (met ≡ 0) → FailingBelow s u c (suc (clauseNumber x)) r
+      go (yes z) = rw (is .0 z) (record { is = λ i. (λ t. later i (below .is i .0 t), λ f. below .is i .1 (earlier i (λ q. at i q f (passes .0 z)) f)) })
+      go (no z) = rw (is .1 z) (record { is = λ i. (λ t. out i (insert-has (clauseNumber x) m i t), λ f. into i f (ℕ-discrete i (clauseNumber x))) })
+        where
+          out : (i : ℕ) → T (has m i) ⊎ (i ≡ clauseNumber x) → Fails (suc (clauseNumber x)) i
+          out i (inl t) = later i (below .is i .0 t)
+          out i (inr q) = (omega arith, x, sym q, λ e. z (passes .1 e))
+
+          into : (i : ℕ) → Fails (suc (clauseNumber x)) i → Dec (i ≡ clauseNumber x) → T (has (insert (clauseNumber x) m) i)
+          into i f (yes q) = rw q (insert-self (clauseNumber x) m)
+          into i f (no q) = has-insert (clauseNumber x) m i (below .is i .1 (earlier i q f))
+
+  all-below-9 : {m : Set} → FailingBelow s u c 9 m → FailingClauses s u c m
+  all-below-9 {m} h = record { is = λ x. (λ t. at x (h .is (clauseNumber x) .0 t), λ n. h .is (clauseNumber x) .1 (number-range x .1, x, refl, n)) }
+    where
+      at : (x : Clause) → (clauseNumber x < 9) × (y : Clause) × (clauseNumber y ≡ clauseNumber x) × (¬ (missingBy s u c y ≡ none)) → ¬ (missingBy s u c x ≡ none)
+      at x (l, y, e, n) = subst (λ (z : Clause). ¬ (missingBy s u c z ≡ none)) (same-clause y x e) n
+
+-- what the eight marks make
+pub failing-is : (s : Store) (u : View) (c : Commit) (w : Wanted) (lost own : Found) → AtHand s u c w lost own
+    → (m1 m2 m3 m4 m5 m6 m7 m8 first second : ℕ) → (first ≡ 0) ↔ (placeOf lost ≡ none) → (second ≡ 0) ↔ (placeOf own ≡ none)
+    → Marks 0 1 first m1 → Marks m1 2 second m2 → Marks m2 3 (bitAnd (w .before) (w .lacking)) m3 → Marks m3 4 (bitAnd (w .read) (w .lacking)) m4
+    → Marks m4 5 (bitAnd (w .written) (w .lacking)) m5 → Marks m5 6 (bitAnd (w .prefix) (w .lacking)) m6 → Marks m6 7 (bitAnd (w .snapshot) (w .lacking)) m7
+    → Marks m7 8 (w .lacking) m8 → FailingClauses s u c m8
+failing-is s u c w lost own h m1 m2 m3 m4 m5 m6 m7 m8 first second f1 f2 k1 k2 k3 k4 k5 k6 k7 k8 =
+    all-below-9
+    (marks serialisability _ (marks snapshotIsolation _ (marks consistentPrefix _ (marks updateAtomic _
+    (marks writesFollowReads _ (marks monotonicWrites _ (marks readYourWrites second (marks monotonicReads first none-below-1
+    (found-passes s u c w lost own h lost monotonicReads (h .lost-is) first f1) k1)
+    (found-passes s u c w lost own h own readYourWrites (h .own-is) second f2) k2)
+    (set-passes s u c w lost own h monotonicWrites _ (w .before) (h .wants .before) (monotonic-writes-is s u (h .view))) k3)
+    (set-passes s u c w lost own h writesFollowReads _ (w .read) (h .wants .read) (write-follows-reads-is s u (h .view))) k4)
+    (set-passes s u c w lost own h updateAtomic _ (w .written) (h .wants .written) (update-atomic-is s u (h .view) c)) k5)
+    (set-passes s u c w lost own h consistentPrefix _ (w .prefix) (h .wants .prefix) (consistent-prefix-is s u (h .view))) k6)
+    (set-passes s u c w lost own h snapshotIsolation _ (w .snapshot) (h .wants .snapshot) (snapshot-isolation-is s u (h .view))) k7)
+    (lacking-passes s u c w lost own h) k8)

@@ -1,0 +1,88 @@
+-- The sets of commits that the clauses want, from the arrays. Assumes nothing.
+use Prim.Native.Nat.{ℕ, _+_, _*_, _^_, _<_}
+use mathlib.Core.Path.{_≡_, subst}
+use mathlib.Core.Logic.{_↔_}
+use mathlib.Core.List.{List}
+use lib.Dec.{T}
+use lib.ListN.{getD}
+use Rattle.search.proofs.Tests.{same}
+use Rattle.sets.specs.Set.{Set, has, without}
+use Rattle.sets.proofs.Laws.{has-none, has-lt}
+use Rattle.relations.specs.Relation.{Plus}
+use Rattle.dependencies.specs.History.{SO, Holds}
+use Rattle.store.specs.Store.{Key, CommitNumber, View, Store, Commit}
+use Rattle.store.specs.Update.{writes}
+use Rattle.store.proofs.Sound.{SoundStore}
+use Rattle.store.proofs.Links.{history, held}
+use Rattle.growth.proofs.Made.{Writer}
+use Rattle.growth.proofs.Links.{FromWrite}
+use Rattle.growth.proofs.Sessions.{ReadUpTo}
+use Rattle.growth.proofs.Views.{Lacking}
+use Rattle.growth.proofs.Clauses.{LeadsToHeld}
+use Rattle.state.specs.Places.{numbers}
+use Rattle.state.specs.Keeps.{IsSet, KeepsKeys, KeepsCommits, KeepsOperations, Step}
+use Rattle.state.proofs.Sets.{isSet-as, isSet-without}
+use Rattle.views.proofs.Codes.{writes-is}
+use Rattle.paths.specs.Path.{LeadsInto}
+use Rattle.verdicts.specs.declared.Wanted.{Wanted}
+use Rattle.verdicts.specs.Sources.{InRows, InKeys, InAnyKey}
+use Rattle.verdicts.specs.Wants.{Lacks, Wants}
+
+-- a key is written where its rank is in the set
+pub writes-ranked : {c : Commit} {ranks : Set} {values : List ℕ} → KeepsOperations c ranks values → (k : Key) → T (writes c k) ↔ T (has ranks (2 * k + 1))
+writes-ranked {c} {ranks} {values} h k = rw (writes-is c ranks values h k) same
+
+module _ (s : Store) (u : View) (seen : Set) (h : IsSet seen (Holds (history s) (held u))) where
+  -- the writers of the store of which the view holds nothing
+  pub lacking-is : (keys : List ℕ) (n all : ℕ) → s .keys ≡ n → SoundStore s → KeepsKeys s keys → IsSet all (InAnyKey keys n) → IsSet (without all seen) (Lacking s u)
+  lacking-is keys n all e sound kept is = isSet-without all seen (isSet-as all writer is) h
+    where
+      writer : (a : CommitNumber) → InAnyKey keys n a ↔ Writer (history s) a
+      writer a = (
+        λ (k, l, x). (k, kept .writers k (rw e l) a .0 x),
+        λ (k, (i, w)). let l = sound .only-keys k i (w .0) in (k, rw (← e) l, kept .writers k l a .1 (i, w)),
+      )
+
+  -- the rows of a link, gathered over what the view holds
+  rows-are : (R : ℕ → ℕ → Type 0) (rows : List ℕ) (from r : ℕ) → seen < 2 ^ 64 → ((t : CommitNumber) → t < numbers → IsSet (getD rows (from + t) 0) (λ a. R a t))
+      → IsSet r (InRows rows from seen) → IsSet r (LeadsToHeld s u R)
+  rows-are R rows from r l row = isSet-as r (λ a. (
+    λ (t, x, y). (t, h t .0 x, row t (has-lt 64 seen t l x) a .0 y),
+    λ (t, x, y). let z = h t .1 x in (t, z, row t (has-lt 64 seen t l z) a .1 y),
+  ))
+
+  pub before-is : (commits : List ℕ) (r : ℕ) → seen < 2 ^ 64 → KeepsCommits s commits → IsSet r (InRows commits 64 seen) → IsSet r (LeadsToHeld s u (SO (history s)))
+  before-is commits r l kept = rows-are (SO (history s)) commits 64 r l (kept .before)
+
+  pub read-is : (commits : List ℕ) (r : ℕ) → seen < 2 ^ 64 → KeepsCommits s commits → IsSet r (InRows commits 128 seen) → IsSet r (LeadsToHeld s u (ReadUpTo (history s)))
+  read-is commits r l kept = rows-are (ReadUpTo (history s)) commits 128 r l (kept .read)
+
+  -- the writers of the keys written
+  pub written-is : (c : Commit) (keys : List ℕ) (ranks : Set) (values : List ℕ) (n r : ℕ) → s .keys ≡ n → SoundStore s → KeepsKeys s keys → KeepsOperations c ranks values
+      → IsSet r (InKeys keys ranks n) → IsSet r (FromWrite s c)
+  written-is c keys ranks values n r e sound kept ops = isSet-as r (λ a. (
+    λ (k, l, x, y). (k, writes-ranked ops k .1 x, kept .writers k (rw e l) a .0 y),
+    λ (k, x, (i, w)). let l = sound .only-keys k i (w .0) in (k, rw (← e) l, writes-ranked ops k .0 x, kept .writers k l a .1 (i, w)),
+  ))
+
+  -- those that lead to what the view holds
+  pub leading-is : (kind r : ℕ) → IsSet r (LeadsInto kind s seen) → IsSet r (LeadsToHeld s u (Plus (Step kind s)))
+  leading-is kind r = isSet-as r (λ a. (λ (t, x, y). (t, h t .0 x, y), λ (t, x, y). (t, h t .1 x, y)))
+
+-- where nothing is lacking nothing is asked
+pub wants-nothing : (s : Store) (u : View) (c : Commit) (lacking : Set) → IsSet lacking (Lacking s u) → lacking ≡ 0
+    → Wants s u c (record { lacking = 0; before = 0; read = 0; written = 0; prefix = 0; snapshot = 0 })
+wants-nothing s u c lacking h e = record {
+  lacking = zero;
+  before = λ x. absurd (none x);
+  read = λ x. absurd (none x);
+  written = λ x. absurd (none x);
+  prefix = λ x. absurd (none x);
+  snapshot = λ x. absurd (none x)
+}
+  where
+    zero : IsSet 0 (Lacking s u)
+    zero = subst (λ (m : Set). IsSet m (Lacking s u)) e h
+
+    none : Lacks s u → ⊥
+    none (a, x) = has-none a (zero a .1 x)

@@ -1,0 +1,60 @@
+-- `verdicts::report::note` meets its contract. The loop's invariant: the levels before this one have been noted. Assumes nothing.
+use Prim.Native.Nat.{ℕ, _-_, _≤_}
+use mathlib.Core.Path.{_≡_}
+use mathlib.Core.List.{List}
+use lib.ListN.{length}
+use borrow.Author.Needs.{needs}
+use Rattle.store.specs.Store.{Store, View, Commit}
+use Rattle.levels.specs.Level.{clausesOf, failsClauses}
+use Rattle.verdicts.specs.AtHand.{Judging}
+use Rattle.verdicts.specs.Verdicts.{levelAt, FailingClauses}
+use Rattle.verdicts.proofs.Noted.{Noted, noted-none, noted-on, noted-all}
+use Rattle.verdicts.proofs.report.note.Statement.{statement}
+use Rattle.verdicts.proofs.report.note.Tie as tie
+
+abbrev Inv-loop : tie.InvT-loop
+Inv-loop verdicts₀ failing number w lost own seen ranks versions keys views base n level₀ verdicts level =
+    (level ≤ 10) × (length verdicts ≡ 40)
+    × ((s : Store) (u : View) (c : Commit) (values : List ℕ) → Judging s u c w lost own seen ranks values versions keys views base n → FailingClauses s u c failing
+    → Noted (λ i. failsClauses number s u c (clausesOf (levelAt i))) level verdicts₀ verdicts)
+
+abbrev μ-loop : tie.MeasureT-loop
+μ-loop verdicts₀ failing number w lost own seen ranks versions keys views base n level₀ verdicts level = 10 - level
+
+loop-holds : tie.Need-loop-holds Inv-loop μ-loop
+loop-holds c = (search needs, search needs, λ s u commit values j h. noted-none _ _)
+
+note-level-requires : tie.Need-note-level-requires Inv-loop μ-loop
+note-level-requires c κs = search needs
+
+add-level : tie.Need-add-level Inv-loop μ-loop
+add-level c = search needs
+
+loop-less : tie.Need-loop-less Inv-loop μ-loop
+loop-less c = search needs
+
+loop-again : tie.Need-loop-again Inv-loop μ-loop
+loop-again c =
+    (search needs, search needs, λ s u commit values j h. noted-on (c .before .before .before .before .before .loop .inv .2 s u commit values j h) (search needs) (c .before .before .note-level .ensures s u commit values j h))
+
+same-length : tie.Need-same-length Inv-loop μ-loop
+same-length c = search needs
+
+returns : tie.Need-returns Inv-loop μ-loop
+returns c =
+    λ s u commit values fs j h k.
+    noted-all (λ l. failsClauses (c .before .before .before .before .before .before .args .number) s u commit (clausesOf l)) (c .before .loop .inv .2 s u commit values j h) (search needs) (c .before .loop .inv .1) fs k
+
+pub note-spec : {M : Type 1} → statement M
+note-spec =
+    tie.close
+    (tie.spec
+    Inv-loop
+    μ-loop
+    loop-holds
+    note-level-requires
+    add-level
+    loop-less
+    loop-again
+    same-length
+    returns)

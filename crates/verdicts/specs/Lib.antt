@@ -1,0 +1,4 @@
+pub mod Sources
+pub mod Verdicts
+pub mod Wants
+pub mod AtHand

@@ -1,0 +1,67 @@
+-- How verdicts are kept: "Levels in report order .. A level keeps its first failure" (01, Clauses and levels). Assumes nothing.
+use Prim.Native.Nat.{ℕ, _+_, _*_, _<_}
+use mathlib.Core.Path.{_≡_}
+use mathlib.Core.Option.{Option, some, none}
+use mathlib.Core.List.{List, [], _∷_}
+use mathlib.Core.Logic.{_↔_, _≢_}
+use lib.Dec.{T}
+use lib.ListN.{length, getD, set}
+use Rattle.search.specs.Choose.{orElse}
+use Rattle.sets.specs.Set.{Set, has, insert}
+use Rattle.store.specs.Store.{View, Store, Commit}
+use Rattle.levels.specs.Clause.{Clause, clauseNumber, missingBy}
+use Rattle.levels.specs.Level.{Level, SER, levels, Failure}
+use Rattle.state.specs.declared.Found.{Found}
+use Rattle.state.specs.declared.Found.the-variants.{At, Nothing}
+
+-- the level at a place in report order
+abbrev pub levelAt : ℕ → Level
+levelAt i = getD levels i SER
+
+-- clauses as a set of their numbers
+unfoldable pub numbersOf : List Clause → Set
+numbersOf [] = 0
+numbersOf (x ∷ xs) = insert (clauseNumber x) (numbersOf xs)
+
+-- ---- the array of verdicts: four tables of ten, in report order
+
+abbrev pub clausePlace : ℕ → ℕ
+clausePlace i = i
+
+abbrev pub recordPlace : ℕ → ℕ
+recordPlace i = 10 + i
+
+abbrev pub keyPlace : ℕ → ℕ
+keyPlace i = 20 + i
+
+abbrev pub versionPlace : ℕ → ℕ
+versionPlace i = 30 + i
+
+-- the four words of a level: the clause is 0 while it has not failed
+unfoldable pub KeepsVerdict : List ℕ → ℕ → Option Failure → Type 0
+KeepsVerdict verdicts i none = getD verdicts (clausePlace i) 0 ≡ 0
+KeepsVerdict verdicts i (some f) =
+    (getD verdicts (clausePlace i) 0 ≡ clauseNumber (f .clause)) × (getD verdicts (recordPlace i) 0 ≡ f .atRecord)
+    × (getD verdicts (keyPlace i) 0 ≡ f .key) × (getD verdicts (versionPlace i) 0 ≡ f .version)
+
+pub record KeepsVerdicts (fs : Level → Option Failure) (verdicts : List ℕ) : Type 0 where
+  pub room : length verdicts ≡ 4 * length levels
+  pub verdict : (i : ℕ) → i < length levels → KeepsVerdict verdicts i (fs (levelAt i))
+
+-- ---- the clauses that a commit fails
+
+-- the set of the numbers of the clauses by which something is missing
+pub record FailingClauses (s : Store) (u : View) (c : Commit) (failing : Set) : Type 0 where
+  pub is : (x : Clause) → T (has failing (clauseNumber x)) ↔ (¬ (missingBy s u c x ≡ none))
+
+-- ---- a failure written down
+
+-- the words of the level at place i after a search by a clause; a search that found nothing leaves them
+unfoldable pub writtenDown : List ℕ → ℕ → ℕ → ℕ → Found → List ℕ
+writtenDown verdicts i clause n (At k v) = set (set (set (set verdicts (clausePlace i) clause) (recordPlace i) n) (keyPlace i) (k .0)) (versionPlace i) (v .0)
+writtenDown verdicts i clause n Nothing = verdicts
+
+-- the level at place i keeps its failure, or takes the new one where it had none; the other levels keep theirs
+pub record NotesLevel (i : ℕ) (new : Option Failure) (before after : List ℕ) : Type 0 where
+  pub here : (old : Option Failure) → KeepsVerdict before i old → KeepsVerdict after i (orElse old new)
+  pub there : (j : ℕ) → j < length levels → j ≢ i → (old : Option Failure) → KeepsVerdict before j old → KeepsVerdict after j old

@@ -1,0 +1,78 @@
+// The clauses, tested on sets of commits: as a view holds all or none of a writer, it misses a version by one of certain commits exactly where one of
+// them is lacking, that is, where the view holds nothing of what it wrote.
+use crate::sources;
+use crate::Wanted;
+ghost use mathlib.Core.Path.{_≡_};
+ghost use mathlib.Core.List.{List};
+ghost use mathlib.Core.Logic.{_↔_};
+ghost use mathlib.Core.Option.{none};
+ghost use Prim.Native.Nat.{ℕ, _<_, _≤_};
+ghost use lib.ListN.{length};
+ghost use Rattle.sets.specs.Set.{insert};
+ghost use Rattle.dependencies.specs.History.{Holds};
+ghost use Rattle.store.specs.Store.{Store, View, Commit};
+ghost use Rattle.store.proofs.Sound.{IsView, SoundStore};
+ghost use Rattle.store.proofs.Links.{history, held};
+ghost use Rattle.state.specs.Keeps.{IsSet, KeepsKeys, KeepsCommits, KeepsLinks, KeepsOperations};
+ghost use Rattle.state.specs.Answers.{placeOf};
+ghost use Rattle.verdicts.specs.Wants.{Wants};
+ghost use Rattle.verdicts.specs.AtHand.{AtHand};
+ghost use Rattle.verdicts.specs.Verdicts.{FailingClauses};
+
+// What the clauses want of the view that holds the commits `seen`; nothing where no commit is lacking.
+pub fn wanted(keys: &[u64], commits: &[u64], links: &[u64], seen: u64, ranks: u64, n: usize) -> Wanted
+    requires { ⌜ (n ≤ 16) × (length (now keys) ≡ 32) × (length (now commits) ≡ 192) × (length (now links) ≡ 160) ⌝ }
+    ensures { λ r. ⌜ ((s : Store) (u : View) (c : Commit) (values : List ℕ) → s .keys ≡ n → SoundStore s → KeepsKeys s (now (keys .entry)) → KeepsCommits s (now (commits .entry)) → KeepsLinks s (now (links .entry)) → KeepsOperations c ranks values → IsSet seen (Holds (history s) (held u)) → Wants s u c r) ⌝ }
+{
+    let lacking = sets::without(sources::writers(keys, n), seen);
+    if lacking == 0 {
+        return Wanted {
+            lacking: 0,
+            before: 0,
+            read: 0,
+            written: 0,
+            prefix: 0,
+            snapshot: 0,
+        };
+    }
+    Wanted {
+        lacking,
+        before: sources::gather(commits, 64, seen),
+        read: sources::gather(commits, 128, seen),
+        written: sources::written(keys, ranks, n),
+        prefix: paths::leading(links, 0, seen),
+        snapshot: paths::leading(links, 1, seen),
+    }
+}
+
+// 0 where nothing was found.
+fn found(f: state::Found) -> u64
+    ensures { λ r. ⌜ (r ≡ 0) ↔ (placeOf f ≡ none) ⌝ }
+{
+    match f {
+        state::Found::At(_, _) => 1,
+        state::Found::Nothing => 0,
+    }
+}
+
+// The set with the clause in it, where `met` is not 0.
+fn mark(set: u64, clause: usize, met: u64) -> u64
+    requires { ⌜ clause < 64 ⌝ }
+    ensures { λ r. ⌜ (met ≡ 0 → r ≡ set) × (¬ (met ≡ 0) → r ≡ insert clause set) ⌝ }
+{
+    if met == 0 { set } else { sets::insert(set, clause) }
+}
+
+// The numbers of the clauses that fail.
+pub fn failing(w: Wanted, lost: state::Found, own: state::Found) -> u64
+    ensures { λ r. ⌜ ((s : Store) (u : View) (c : Commit) → AtHand s u c w lost own → FailingClauses s u c r) ⌝ }
+{
+    let a = mark(0, 1, found(lost));
+    let b = mark(a, 2, found(own));
+    let c = mark(b, 3, w.before & w.lacking);
+    let d = mark(c, 4, w.read & w.lacking);
+    let e = mark(d, 5, w.written & w.lacking);
+    let f = mark(e, 6, w.prefix & w.lacking);
+    let g = mark(f, 7, w.snapshot & w.lacking);
+    mark(g, 8, w.lacking)
+}

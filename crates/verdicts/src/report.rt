@@ -1,0 +1,60 @@
+// The first failure of each level: forty words, the clause (0 while the level has not failed), the record, the key and the version, ten of each in
+// report order.
+use crate::missing;
+use crate::table;
+use crate::Wanted;
+ghost use mathlib.Core.Path.{_≡_};
+ghost use mathlib.Core.Option.{Option};
+ghost use mathlib.Core.List.{List};
+ghost use Prim.Native.Nat.{ℕ, _+_, _<_, _≤_};
+ghost use lib.ListN.{length};
+ghost use Rattle.search.specs.Choose.{orElse};
+ghost use Rattle.store.specs.Store.{Store, View, Commit};
+ghost use Rattle.levels.specs.Level.{Level, clausesOf, Failure, failsClauses};
+ghost use Rattle.verdicts.specs.AtHand.{Judging};
+ghost use Rattle.verdicts.specs.Verdicts.{levelAt, FailingClauses, writtenDown, NotesLevel, KeepsVerdicts};
+
+// What a search by a clause found for a level.
+fn write_down(verdicts: &mut [u64], level: usize, clause: usize, number: usize, at: state::Found)
+    requires { ⌜ (length (now verdicts) ≡ 40) × (level < 10) ⌝ }
+    ensures { λ _. ⌜ now (verdicts .exit) ≡ writtenDown (now (verdicts .entry)) level clause number at ⌝ }
+{
+    match at {
+        state::Found::At(k, v) => {
+            verdicts[level] = clause as u64;
+            verdicts[10 + level] = number as u64;
+            verdicts[20 + level] = k.0 as u64;
+            verdicts[30 + level] = v.0 as u64;
+        }
+        state::Found::Nothing => {}
+    }
+}
+
+// One level: "A commit fails a level at its lowest failing clause", and "A level keeps its first failure".
+fn note_level(verdicts: &mut [u64], level: usize, failing: u64, number: usize, w: Wanted, lost: state::Found, own: state::Found, seen: u64, ranks: u64, versions: &[u64], keys: &[u64], views: &[u64], base: usize, n: usize)
+    requires { ⌜ (length (now verdicts) ≡ 40) × (level < 10) × (n ≤ 16) × (length (now versions) ≡ 2048) × (length (now keys) ≡ 32) × (base + n ≤ length (now views)) ⌝ }
+    ensures { λ _. ⌜ ((s : Store) (u : View) (c : Commit) (values : List ℕ) → Judging s u c w lost own seen ranks values (now (versions .entry)) (now (keys .entry)) (now (views .entry)) base n → FailingClauses s u c failing → NotesLevel level (failsClauses number s u c (clausesOf (levelAt level))) (now (verdicts .entry)) (now (verdicts .exit))) ⌝ }
+{
+    if verdicts[level] != 0 {
+        return;
+    }
+    let struck = table::clauses_of(level) & failing;
+    if struck == 0 {
+        return;
+    }
+    let clause = sets::lowest(struck);
+    let at = missing::missing_by(clause, w, lost, own, seen, ranks, versions, keys, views, base, n);
+    write_down(verdicts, level, clause, number, at);
+}
+
+// All levels, after a commit, of the record of that number, that fails the clauses of the set.
+pub fn note(verdicts: &mut [u64], failing: u64, number: usize, w: Wanted, lost: state::Found, own: state::Found, seen: u64, ranks: u64, versions: &[u64], keys: &[u64], views: &[u64], base: usize, n: usize)
+    requires { ⌜ (length (now verdicts) ≡ 40) × (n ≤ 16) × (length (now versions) ≡ 2048) × (length (now keys) ≡ 32) × (base + n ≤ length (now views)) ⌝ }
+    ensures { λ _. ⌜ ((s : Store) (u : View) (c : Commit) (values : List ℕ) (fs : Level → Option Failure) → Judging s u c w lost own seen ranks values (now (versions .entry)) (now (keys .entry)) (now (views .entry)) base n → FailingClauses s u c failing → KeepsVerdicts fs (now (verdicts .entry)) → KeepsVerdicts (λ l. orElse (fs l) (failsClauses number s u c (clausesOf l))) (now (verdicts .exit))) ⌝ }
+{
+    let mut level: usize = 0;
+    while level < 10 {
+        note_level(verdicts, level, failing, number, w, lost, own, seen, ranks, versions, keys, views, base, n);
+        level = level + 1;
+    }
+}

@@ -1,0 +1,363 @@
+//! Section "Traces from the bench": traces A to K with the answers that the
+//! paper gives, or that follow from it where it says "the rest".
+
+use crate::store::{Key, Store, Version, View};
+use crate::trace::{encode, Operation, Record, Trace};
+use crate::{Refusal, Verdict};
+
+/// One trace, or one variant of it. `bytes` is the file; it is the encoding of
+/// `trace` except where the paper cuts or spoils the file itself.
+pub struct BenchTrace {
+    pub name: &'static str,
+    pub trace: Trace,
+    pub bytes: Vec<u8>,
+    pub expected: Expected,
+}
+
+#[derive(Clone, Copy, PartialEq, Eq, Debug)]
+#[allow(clippy::large_enum_variant)] // plain data, copied freely
+pub enum Expected {
+    Refused(Refusal),
+    Judged([Verdict; 10]),
+}
+
+/// All of them in the paper's order.
+pub fn all() -> Vec<BenchTrace> {
+    let whole = |name, trace: Trace, expected| BenchTrace {
+        name,
+        bytes: encode(&trace),
+        trace,
+        expected,
+    };
+    vec![
+        whole("A", trace_a(), judged(&[])),
+        whole(
+            "B",
+            trace_b(),
+            judged(&[
+                ("UA", refused(2, 2, 5, 0, 1)),
+                ("PSI", refused(2, 2, 5, 0, 1)),
+                ("SI", refused(2, 2, 5, 0, 1)),
+                ("SER", refused(2, 2, 8, 0, 1)),
+            ]),
+        ),
+        whole(
+            "C",
+            trace_c(),
+            judged(&[
+                ("CP", refused(4, 6, 6, 0, 1)),
+                ("SI", refused(4, 6, 7, 0, 1)),
+                ("SER", refused(2, 2, 8, 0, 1)),
+            ]),
+        ),
+        whole("D", trace_d(), judged(&[("SER", refused(2, 2, 8, 0, 1))])),
+        whole(
+            "E",
+            trace_e(),
+            judged(&[
+                ("MR", refused(2, 3, 1, 0, 1)),
+                ("CC", refused(2, 3, 1, 0, 1)),
+                ("PSI", refused(2, 3, 1, 0, 1)),
+                ("CP", refused(2, 3, 1, 0, 1)),
+                ("SI", refused(2, 3, 1, 0, 1)),
+            ]),
+        ),
+        whole(
+            "F",
+            trace_f(),
+            judged(&[
+                ("MW", refused(3, 4, 3, 0, 1)),
+                ("CC", refused(3, 4, 3, 0, 1)),
+                ("PSI", refused(3, 4, 3, 0, 1)),
+                ("CP", refused(3, 4, 6, 0, 1)),
+                ("SI", refused(3, 4, 7, 0, 1)),
+                ("SER", refused(3, 4, 8, 0, 1)),
+            ]),
+        ),
+        whole(
+            "G",
+            trace_g(),
+            judged(&[
+                ("WFR", refused(3, 5, 4, 0, 1)),
+                ("CC", refused(3, 5, 4, 0, 1)),
+                ("PSI", refused(3, 5, 4, 0, 1)),
+                ("CP", refused(3, 5, 6, 0, 1)),
+                ("SI", refused(3, 5, 7, 0, 1)),
+                ("SER", refused(3, 5, 8, 0, 1)),
+            ]),
+        ),
+        whole("H", trace_h(), code(11, 2, 1, 1)),
+        whole(
+            "I, reads 1 from the opening store",
+            trace_i_read(),
+            code(13, 1, 0, 0),
+        ),
+        whole("I, number 0 twice", trace_i_twice(), code(9, 2, 0, 0)),
+        whole(
+            "I, number 0 twice, the first one empty",
+            trace_i_empty(),
+            judged(&[]),
+        ),
+        BenchTrace {
+            name: "J, B cut to 79 bytes",
+            trace: trace_b(),
+            bytes: encode(&trace_b())[..79].to_vec(),
+            expected: code(1, 0, 0, 0),
+        },
+        BenchTrace {
+            name: "J, B cut to 79 bytes with first field 79",
+            trace: trace_b(),
+            bytes: with_first_field(&encode(&trace_b())[..79]),
+            expected: code(3, 2, 0, 0),
+        },
+        whole("K, 63 commits", trace_k(63), judged(&[])),
+        whole("K, 64 commits", trace_k(64), code(8, 64, 0, 0)),
+        BenchTrace {
+            name: "K, a wrong read in record 1 and kind 9 in record 2",
+            trace: trace_k_wrong_read(),
+            bytes: with_kind_9_in_record_2(&trace_k_wrong_read()),
+            expected: code(4, 2, 0, 0),
+        },
+    ]
+}
+
+/// Header only, one key.
+pub fn trace_a() -> Trace {
+    trace(1, 1, vec![])
+}
+
+/// Lost update.
+pub fn trace_b() -> Trace {
+    trace(
+        1,
+        2,
+        vec![
+            commit(0, 0, &[read(0, 0), write(0)], &[&[0, 1]]),
+            commit(1, 0, &[read(0, 0), write(0)], &[&[0, 2]]),
+        ],
+    )
+}
+
+/// Long fork.
+pub fn trace_c() -> Trace {
+    trace(
+        2,
+        4,
+        vec![
+            commit(0, 0, &[write(0)], &[&[0, 1], &[0]]),
+            commit(1, 0, &[write(1)], &[&[0], &[0, 1]]),
+            shift(2, &[&[0, 1], &[0]]),
+            commit(2, 0, &[read(0, 1), read(1, 0)], &[&[0, 1], &[0]]),
+            shift(3, &[&[0], &[0, 1]]),
+            commit(3, 0, &[read(0, 0), read(1, 1)], &[&[0], &[0, 1]]),
+        ],
+    )
+}
+
+/// Write skew.
+pub fn trace_d() -> Trace {
+    trace(
+        2,
+        2,
+        vec![
+            commit(0, 0, &[read(0, 0), write(0), read(1, 0)], &[&[0, 1], &[0]]),
+            commit(1, 0, &[read(0, 0), read(1, 0), write(1)], &[&[0], &[0, 1]]),
+        ],
+    )
+}
+
+/// A reader loses what it read.
+pub fn trace_e() -> Trace {
+    trace(
+        1,
+        2,
+        vec![
+            commit(0, 0, &[write(0)], &[&[0, 1]]),
+            shift(1, &[&[0, 1]]),
+            commit(1, 0, &[read(0, 1)], &[&[0]]),
+        ],
+    )
+}
+
+/// The second write of a session without the first.
+pub fn trace_f() -> Trace {
+    trace(
+        2,
+        3,
+        vec![
+            commit(0, 0, &[write(0)], &[&[0, 1], &[0]]),
+            commit(0, 1, &[write(1)], &[&[0, 1], &[0, 1]]),
+            shift(2, &[&[0], &[0, 1]]),
+            commit(2, 0, &[read(1, 1)], &[&[0], &[0, 1]]),
+        ],
+    )
+}
+
+/// A write without what its writer had read.
+pub fn trace_g() -> Trace {
+    trace(
+        2,
+        3,
+        vec![
+            commit(0, 0, &[write(0)], &[&[0, 1], &[0]]),
+            shift(1, &[&[0, 1], &[0]]),
+            commit(1, 0, &[read(0, 1), write(1)], &[&[0, 1], &[0, 1]]),
+            shift(2, &[&[0], &[0, 1]]),
+            commit(2, 0, &[read(1, 1)], &[&[0], &[0, 1]]),
+        ],
+    )
+}
+
+/// Half of a writer.
+pub fn trace_h() -> Trace {
+    trace(
+        2,
+        2,
+        vec![
+            commit(0, 0, &[write(0), write(1)], &[&[0, 1], &[0, 1]]),
+            shift(1, &[&[0, 1], &[0]]),
+        ],
+    )
+}
+
+pub fn trace_i_read() -> Trace {
+    trace(1, 1, vec![commit(0, 0, &[read(0, 1)], &[&[0]])])
+}
+
+pub fn trace_i_twice() -> Trace {
+    trace(
+        1,
+        1,
+        vec![
+            commit(0, 0, &[write(0)], &[&[0, 1]]),
+            commit(0, 0, &[write(0)], &[&[0, 1, 2]]),
+        ],
+    )
+}
+
+pub fn trace_i_empty() -> Trace {
+    trace(
+        1,
+        1,
+        vec![
+            commit(0, 0, &[], &[&[0]]),
+            commit(0, 0, &[write(0)], &[&[0, 1]]),
+        ],
+    )
+}
+
+/// One client that writes one key again and again. Beyond 63 commits the view
+/// after cannot name the newest version any more, and need not.
+pub fn trace_k(commits: usize) -> Trace {
+    let mut records = Vec::new();
+    for number in 1..=commits {
+        let held: Vec<usize> = (0..=number.min(Store::MAX_COMMITS)).collect();
+        records.push(commit(0, number as u32 - 1, &[write(0)], &[&held]));
+    }
+    trace(1, 1, records)
+}
+
+/// Before record 2 is given kind 9.
+pub fn trace_k_wrong_read() -> Trace {
+    trace(
+        1,
+        1,
+        vec![
+            commit(0, 0, &[read(0, 1)], &[&[0]]),
+            commit(0, 1, &[write(0)], &[&[0, 1]]),
+        ],
+    )
+}
+
+fn with_kind_9_in_record_2(trace: &Trace) -> Vec<u8> {
+    let mut bytes = encode(trace);
+    let record_1 = 12;
+    let record_2 = record_1 + bytes[record_1] as usize;
+    bytes[record_2 + 2] = 9;
+    bytes
+}
+
+fn with_first_field(file: &[u8]) -> Vec<u8> {
+    let mut bytes = file.to_vec();
+    bytes[..4].copy_from_slice(&(file.len() as u32).to_le_bytes());
+    bytes
+}
+
+/// Ten verdicts, accepted where none is given.
+fn judged(failures: &[(&str, Verdict)]) -> Expected {
+    let mut verdicts = [Verdict::Accepted; 10];
+    for (name, verdict) in failures {
+        let names = [
+            "MR", "MW", "RYW", "WFR", "CC", "UA", "PSI", "CP", "SI", "SER",
+        ];
+        let index = names
+            .iter()
+            .position(|known| known == name)
+            .expect("a level's name");
+        verdicts[index] = *verdict;
+    }
+    Expected::Judged(verdicts)
+}
+
+fn refused(commit: usize, record: usize, clause: u8, key: usize, version: usize) -> Verdict {
+    Verdict::Refused {
+        commit,
+        record,
+        clause,
+        key,
+        version,
+    }
+}
+
+fn code(code: u8, record: usize, key: usize, version: usize) -> Expected {
+    Expected::Refused(Refusal {
+        code,
+        record,
+        key,
+        version,
+    })
+}
+
+fn trace(keys: usize, clients: usize, records: Vec<Record>) -> Trace {
+    Trace {
+        keys,
+        clients,
+        records,
+    }
+}
+
+fn shift(client: usize, held: &[&[usize]]) -> Record {
+    Record::Shift {
+        client,
+        view: view(held),
+    }
+}
+
+fn commit(client: usize, session: u32, operations: &[Operation], held: &[&[usize]]) -> Record {
+    Record::Commit {
+        client,
+        session,
+        operations: operations.to_vec(),
+        after: view(held),
+    }
+}
+
+fn read(key: usize, value: u32) -> Operation {
+    Operation::read(key, value)
+}
+
+/// Values written are 1.
+fn write(key: usize) -> Operation {
+    Operation::write(key, 1)
+}
+
+/// For each key the versions held.
+fn view(held: &[&[usize]]) -> View {
+    let mut view = View::new();
+    for (key, versions) in held.iter().enumerate() {
+        for &version in *versions {
+            view.insert((Key(key), Version(version)));
+        }
+    }
+    view
+}

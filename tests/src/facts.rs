@@ -1,0 +1,194 @@
+//! Section "The words of demand 3": the facts that hold of every taken trace,
+//! as functions to test with. Each answers what it found false.
+
+use crate::levels::LEVELS;
+use crate::relations::{
+    dependencies, has_loop, one_or_more, rw, so, then_maybe, union, wr, ww, Relation,
+};
+use crate::run::{run, Run};
+use crate::store::{CommitNumber, Store};
+use crate::trace::{encode, Record, Trace};
+use crate::{form, image, judge, Answer, Report, Verdict};
+use std::collections::BTreeSet;
+
+/// The number of the first commit that fails a level; one more than the number
+/// of commits if it accepts.
+pub fn failing_commit(report: &Report, level: &str) -> usize {
+    let index = LEVELS
+        .iter()
+        .position(|known| known.name == level)
+        .expect("a level's name");
+    match report.verdicts[index] {
+        Verdict::Accepted => report.commits + 1,
+        Verdict::Refused { commit, .. } => commit,
+    }
+}
+
+fn accepts(report: &Report, level: &str) -> bool {
+    failing_commit(report, level) == report.commits + 1
+}
+
+/// The order of the failing commits.
+pub fn order_holds(report: &Report) -> Result<(), String> {
+    let at = |level| failing_commit(report, level);
+    let no_later = [
+        ("SI", "PSI"),
+        ("SI", "CP"),
+        ("PSI", "CC"),
+        ("CP", "CC"),
+        ("CC", "MR"),
+        ("CC", "MW"),
+        ("CC", "RYW"),
+        ("CC", "WFR"),
+    ];
+    for (stronger, weaker) in no_later {
+        if at(stronger) > at(weaker) {
+            return Err(format!("{stronger} fails later than {weaker}"));
+        }
+    }
+    if at("SI") < at("SER").min(at("MR")).min(at("RYW")) {
+        return Err("SI fails earlier than SER, MR and RYW".to_string());
+    }
+    Ok(())
+}
+
+/// The rings of the final store: with SI each has two RW links side by side,
+/// with SER there is none.
+pub fn rings_hold(report: &Report, store: &Store) -> Result<(), String> {
+    if accepts(report, "SI") && has_ring_without_adjacent_rw(store) {
+        return Err("SI accepts a ring without two RW links side by side".to_string());
+    }
+    if accepts(report, "SER") && has_ring(store) {
+        return Err("SER accepts a ring".to_string());
+    }
+    Ok(())
+}
+
+/// Is there a closed walk of one or more links?
+pub fn has_ring(store: &Store) -> bool {
+    has_loop(&one_or_more(&dependencies(store)))
+}
+
+/// Is there a closed walk in which no two RW links stand side by side, the
+/// last link standing beside the first? Walks are followed link by link; all
+/// that matters of a walk is where it started, whether its first link was RW,
+/// where it is, and whether its last link was RW.
+pub fn has_ring_without_adjacent_rw(store: &Store) -> bool {
+    let others = union(&[so(store), wr(store), ww(store)]);
+    let rw = rw(store);
+    let nodes: BTreeSet<CommitNumber> = union(&[others.clone(), rw.clone()])
+        .iter()
+        .map(|link| link.0)
+        .collect();
+    for &start in &nodes {
+        for first_is_rw in [false, true] {
+            let first_links = if first_is_rw { &rw } else { &others };
+            let mut reached = BTreeSet::new();
+            let mut open: Vec<(CommitNumber, bool)> = targets(first_links, start)
+                .into_iter()
+                .map(|to| (to, first_is_rw))
+                .collect();
+            while let Some((place, last_is_rw)) = open.pop() {
+                if !reached.insert((place, last_is_rw)) {
+                    continue;
+                }
+                if place == start && !(last_is_rw && first_is_rw) {
+                    return true;
+                }
+                open.extend(targets(&others, place).into_iter().map(|to| (to, false)));
+                if !last_is_rw {
+                    open.extend(targets(&rw, place).into_iter().map(|to| (to, true)));
+                }
+            }
+        }
+    }
+    false
+}
+
+/// The same by a closure: such a walk, begun at a link that is not RW, is a
+/// loop of ((SO or WR or WW);RW?)+. The two are compared by the tests.
+pub fn has_ring_without_adjacent_rw_by_closure(store: &Store) -> bool {
+    let others = union(&[so(store), wr(store), ww(store)]);
+    has_loop(&one_or_more(&then_maybe(&others, &rw(store))))
+}
+
+fn targets(links: &Relation, from: CommitNumber) -> Vec<CommitNumber> {
+    links
+        .iter()
+        .filter(|link| link.0 == from)
+        .map(|link| link.1)
+        .collect()
+}
+
+/// The replay of a taken trace as a file; no bytes for one that is not taken.
+pub fn replay(trace: &[u8]) -> Vec<u8> {
+    match taken(trace) {
+        Some((trace, run)) => encode(&replay_of(&trace, &run)),
+        None => Vec::new(),
+    }
+}
+
+/// The same commits in the same order, each after a shift of its client to a
+/// full view of the store it is made on, and left with a full view.
+pub fn replay_of(trace: &Trace, run: &Run) -> Trace {
+    let mut records = Vec::new();
+    for step in &run.steps {
+        records.push(Record::Shift {
+            client: step.author.client,
+            view: step.store.versions(),
+        });
+        records.push(Record::Commit {
+            client: step.author.client,
+            session: step.author.session,
+            operations: step.operations.clone(),
+            after: step.store_after.versions(),
+        });
+    }
+    Trace {
+        keys: trace.keys,
+        clients: trace.clients,
+        records,
+    }
+}
+
+/// If SER accepts: the replay is taken, gives the same store and image, and
+/// all ten levels accept it.
+pub fn replay_holds(report: &Report, trace: &Trace, run: &Run) -> Result<(), String> {
+    if !accepts(report, "SER") {
+        return Ok(());
+    }
+    let file = encode(&replay_of(trace, run));
+    let Some((_, again)) = taken(&file) else {
+        return Err("the replay is refused".to_string());
+    };
+    if again.store != run.store {
+        return Err("the replay gives another store".to_string());
+    }
+    let due = image::image(&run.store);
+    let mut image = vec![0xA5; due.len()];
+    let Answer::Judged(replayed) = judge(&file, &mut image) else {
+        return Err("the replay is refused".to_string());
+    };
+    if image != due {
+        return Err("the replay gives another image".to_string());
+    }
+    if replayed.verdicts != [Verdict::Accepted; 10] {
+        return Err("a level refuses the replay".to_string());
+    }
+    Ok(())
+}
+
+/// Demand 3, whole, of one taken trace and its report.
+pub fn demand_3_holds(file: &[u8], report: &Report) -> Result<(), String> {
+    let (trace, run) = taken(file).ok_or("not taken")?;
+    order_holds(report)?;
+    rings_hold(report, &run.store)?;
+    replay_holds(report, &trace, &run)
+}
+
+/// The trace and its run, if none of codes 1 to 14 is due.
+pub fn taken(file: &[u8]) -> Option<(Trace, Run)> {
+    let trace = form::read(file).ok()?;
+    let run = run(&trace).ok()?;
+    Some((trace, run))
+}

@@ -1,0 +1,123 @@
+//! Seeded test files: taken traces of many styles, files planted with one
+//! fault or with several, and spoiled bytes. The same seed gives the same
+//! file. What a file is known to be answered with comes along with it, found
+//! from how it was made and not by judging it.
+
+pub mod mangled;
+pub mod planted;
+pub mod taken;
+
+pub use mangled::mangled;
+pub use planted::{competing, planted};
+pub use taken::{build, build_path, exactly_full, largest, Built, Numbering, Rule, Seeing, Style};
+
+use crate::random::Random;
+use crate::trace::{encode, Trace};
+use crate::Refusal;
+
+/// One generated file.
+pub struct Case {
+    pub kind: &'static str,
+    pub bytes: Vec<u8>,
+    /// The faults planted on purpose, each as it would be answered alone.
+    pub planted: Vec<Refusal>,
+    pub expected: Expected,
+}
+
+/// What is known of the answer, the image buffer being long enough.
+#[derive(Clone, PartialEq, Eq, Debug)]
+pub enum Expected {
+    /// Ten verdicts.
+    Taken,
+    /// This very refusal.
+    Refused(Refusal),
+    /// Nothing is known.
+    Anything,
+}
+
+/// The file of a seed, of all kinds mixed; about one in five hundred is large.
+pub fn case(seed: u64) -> Case {
+    let mut random = Random::seeded(seed);
+    match random.below(1000) {
+        0..=479 => taken_case(&mut random),
+        480..=669 => {
+            let code = random.between(1, 14) as u8;
+            let (bytes, refusal) = planted(&mut random, code);
+            let expected = Expected::Refused(refusal);
+            Case {
+                kind: "planted",
+                bytes,
+                planted: vec![refusal],
+                expected,
+            }
+        }
+        670..=799 => {
+            let (bytes, planted, expected) = competing(&mut random);
+            Case {
+                kind: "competing",
+                bytes,
+                planted,
+                expected,
+            }
+        }
+        800..=997 => {
+            let (bytes, expected) = mangled(&mut random);
+            Case {
+                kind: "mangled",
+                bytes,
+                planted: vec![],
+                expected,
+            }
+        }
+        998 => {
+            let trace = largest(&mut random).trace;
+            known_taken("largest", &trace)
+        }
+        _ => full_case(&mut random),
+    }
+}
+
+/// The bytes of a seed alone.
+pub fn file(seed: u64) -> Vec<u8> {
+    case(seed).bytes
+}
+
+/// A taken trace of a random style, or around one path of links.
+pub fn taken_case(random: &mut Random) -> Case {
+    if random.percent(25) {
+        return known_taken("path", &build_path(random).trace);
+    }
+    let style = Style::random(random);
+    known_taken("taken", &build(random, &style).trace)
+}
+
+fn known_taken(kind: &'static str, trace: &Trace) -> Case {
+    Case {
+        kind,
+        bytes: encode(trace),
+        planted: vec![],
+        expected: Expected::Taken,
+    }
+}
+
+/// A file of 65,536 bytes, or one that is longer by one record.
+fn full_case(random: &mut Random) -> Case {
+    let mut trace = exactly_full(random).trace;
+    if random.percent(50) {
+        return known_taken("full", &trace);
+    }
+    let last = trace
+        .records
+        .last()
+        .expect("a full file has records")
+        .clone();
+    trace.records.push(last);
+    let refusal = Refusal::at(1, 0);
+    let expected = Expected::Refused(refusal);
+    Case {
+        kind: "overfull",
+        bytes: encode(&trace),
+        planted: vec![refusal],
+        expected,
+    }
+}

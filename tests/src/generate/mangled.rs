@@ -1,0 +1,180 @@
+//! Spoiled bytes: cut files, fields that lie, random bytes, flipped bits,
+//! records that are moved, and traces with random changes to what they say.
+
+use super::taken::{build, Style};
+use super::Expected;
+use crate::random::Random;
+use crate::store::{Key, Version, View};
+use crate::trace::{encode, Record, Trace};
+use crate::Refusal;
+
+/// One spoiled file.
+pub fn mangled(random: &mut Random) -> (Vec<u8>, Expected) {
+    match random.below(9) {
+        0 => {
+            let file = encode(&small_trace(random));
+            let cut = file[..random.below(file.len())].to_vec();
+            (cut, Expected::Refused(Refusal::at(1, 0)))
+        }
+        1 => {
+            let file = encode(&small_trace(random));
+            let cut = file[..random.between(4, file.len())].to_vec();
+            (with_true_length(cut), Expected::Anything)
+        }
+        2 => (lying(random), Expected::Anything),
+        3 => (random_bytes(random), Expected::Anything),
+        4 => (flipped(random), Expected::Anything),
+        5 => (moved(random), Expected::Anything),
+        _ => (scrambled(random), Expected::Anything),
+    }
+}
+
+fn small_trace(random: &mut Random) -> Trace {
+    loop {
+        let style = Style::random(random);
+        if style.commits <= 16 {
+            return build(random, &style).trace;
+        }
+    }
+}
+
+fn with_true_length(mut file: Vec<u8>) -> Vec<u8> {
+    let length = file.len() as u32;
+    file[..4].copy_from_slice(&length.to_le_bytes());
+    file
+}
+
+/// A u16 somewhere is another one; more often a length, kind or count.
+fn lying(random: &mut Random) -> Vec<u8> {
+    let trace = small_trace(random);
+    let mut file = encode(&trace);
+    let mut fields = vec![0, 2, 4, 6, 8, 10];
+    let mut at = 12;
+    while at < file.len() {
+        fields.extend([at, at + 2, at + 4]);
+        at += u16::from_le_bytes([file[at], file[at + 1]]) as usize;
+    }
+    for _ in 0..random.between(1, 2) {
+        let at = match random.below(3) {
+            0 => random.below(file.len() / 2) * 2,
+            _ => random.pick(&fields),
+        };
+        let old = u16::from_le_bytes([file[at], file[at + 1]]);
+        let change: u16 = random.pick(&[1, 2, 4, 8, 16, 256, 1 << 15]);
+        let new = if random.percent(50) {
+            old.wrapping_add(change)
+        } else {
+            old.wrapping_sub(change)
+        };
+        file[at..at + 2].copy_from_slice(&new.to_le_bytes());
+    }
+    file
+}
+
+/// Random bytes, some with the right first field, some with a good header.
+fn random_bytes(random: &mut Random) -> Vec<u8> {
+    let some = random.between(12, 300);
+    let size = random.pick(&[0, 3, 11, 12, 20, some, some, some]);
+    let mut file: Vec<u8> = (0..size).map(|_| random.byte()).collect();
+    if size < 12 || random.percent(20) {
+        return file;
+    }
+    file = with_true_length(file);
+    if random.percent(80) {
+        let keys = random.between(1, 3) as u8;
+        let count = random.below(3) as u8;
+        file[4..12].copy_from_slice(&[8, 0, 1, 0, keys, 2, count, 0]);
+        // The kind of the first record too, so that its length is looked at.
+        if size >= 16 && random.percent(70) {
+            file[14..16].copy_from_slice(&[random.between(1, 3) as u8, 0]);
+        }
+    }
+    file
+}
+
+/// One to four bits of a good file, mostly after the header.
+fn flipped(random: &mut Random) -> Vec<u8> {
+    let mut file = encode(&small_trace(random));
+    for _ in 0..random.between(1, 4) {
+        let low = if file.len() > 12 && random.percent(90) {
+            12
+        } else {
+            0
+        };
+        let at = random.between(low, file.len() - 1);
+        file[at] ^= 1 << random.below(8);
+    }
+    file
+}
+
+/// A record is left out, stands twice, or changes places with another.
+fn moved(random: &mut Random) -> Vec<u8> {
+    let mut trace = small_trace(random);
+    let count = trace.records.len();
+    if count > 0 {
+        let (one, other) = (random.below(count), random.below(count));
+        match random.below(3) {
+            0 => {
+                trace.records.remove(one);
+            }
+            1 => trace.records.insert(other, trace.records[one].clone()),
+            _ => trace.records.swap(one, other),
+        }
+    }
+    encode(&trace)
+}
+
+/// Small random changes to masks, values, session numbers and clients, so
+/// that several faults of meaning meet in one file, often in one record.
+fn scrambled(random: &mut Random) -> Vec<u8> {
+    let mut trace = small_trace(random);
+    let (keys, clients) = (trace.keys, trace.clients);
+    let percent = random.pick(&[5, 20, 60]);
+    for record in &mut trace.records {
+        if !random.percent(percent) {
+            continue;
+        }
+        match record {
+            Record::Shift { client, view } => {
+                if random.percent(10) {
+                    *client = random.below(clients);
+                }
+                scramble_view(random, keys, view);
+            }
+            Record::Commit {
+                client,
+                session,
+                operations,
+                after,
+            } => {
+                match random.below(6) {
+                    0 => *client = random.below(clients),
+                    1 => *session = random.below(4) as u32,
+                    2 => {
+                        for operation in operations {
+                            if random.percent(30) {
+                                operation.value = random.below(3) as u32;
+                            }
+                        }
+                    }
+                    _ => {}
+                }
+                if random.percent(70) {
+                    scramble_view(random, keys, after);
+                }
+            }
+        }
+    }
+    encode(&trace)
+}
+
+fn scramble_view(random: &mut Random, keys: usize, view: &mut View) {
+    for _ in 0..random.between(1, 3) {
+        let bound = if random.percent(10) { 64 } else { 6 };
+        let version = random.below(bound);
+        let bit = (Key(random.below(keys)), Version(version));
+        if !view.remove(&bit) {
+            view.insert(bit);
+        }
+    }
+}

@@ -1,0 +1,791 @@
+//! Traces that are taken. A view holds all versions of a writer or none, so
+//! a view is chosen as a set of writers; what is left to a style is which
+//! writers a client sees before a commit and keeps after it.
+
+use crate::random::Random;
+use crate::relations::{
+    one_or_more, prefix_paths, prefix_steps, snapshot_paths, snapshot_steps, so, union, wr, ww,
+    Relation,
+};
+use crate::store::{
+    newest, opening_view, writers_in, Author, CommitNumber, Key, Store, View, OPENING,
+};
+use crate::trace::{Operation, OperationKind, Record, Trace};
+use std::collections::BTreeSet;
+
+type Writers = BTreeSet<CommitNumber>;
+
+/// What a client sees more of before it commits.
+#[derive(Clone, Copy, PartialEq, Eq, Debug)]
+pub enum Seeing {
+    Nothing,
+    Everything,
+    /// All commits up to some number.
+    UpToSome,
+    /// Each unseen commit in so many cases of a hundred.
+    Each(usize),
+}
+
+/// What the view of a commit is widened to keep.
+#[derive(Clone, Copy, PartialEq, Eq, Debug)]
+pub enum Rule {
+    /// Clauses 3 to 8.
+    Sessions,
+    Reads,
+    Written,
+    Prefix,
+    Snapshot,
+    Everything,
+    /// Clauses 6 and 7 nearly: one step only, no step by way of a commit that
+    /// only reads, no RW link.
+    OneStepOfPrefix,
+    OneStepOfSnapshot,
+    PrefixOfWriters,
+    SnapshotOfWriters,
+    WithoutRw,
+}
+
+/// How the session numbers of a client rise.
+#[derive(Clone, Copy, PartialEq, Eq, Debug)]
+pub enum Numbering {
+    ByOne,
+    WithGaps,
+    Wild,
+}
+
+/// What kind of trace to make. The last fields are percentages.
+#[derive(Clone, Debug)]
+pub struct Style {
+    pub keys: usize,
+    pub clients: usize,
+    pub commits: usize,
+    /// Values written are below this.
+    pub values: usize,
+    pub numbering: Numbering,
+    pub seeing: Seeing,
+    /// What the view of a commit is widened to.
+    pub keeping: Vec<Rule>,
+    /// Commits that leave `keeping` aside.
+    pub lapses: usize,
+    /// Views after without the commit's own versions.
+    pub hides_own: usize,
+    /// Writers lost, of those that a view after may lose.
+    pub loses: usize,
+    /// Writers gained, of those that a view after may gain.
+    pub gains: usize,
+    /// Commits without operations, and without writes.
+    pub empty: usize,
+    pub only_reads: usize,
+    /// Keys that a commit touches besides one that it always does; touched
+    /// keys that are written; written keys that are also read.
+    pub touched: usize,
+    pub written: usize,
+    pub also_read: usize,
+    /// Shifts that stand between commits for no purpose.
+    pub idle: usize,
+}
+
+impl Style {
+    /// Any style; one in four is of the kind where the paths matter.
+    pub fn random(random: &mut Random) -> Style {
+        let style = Style::anything(random);
+        if random.percent(75) {
+            style
+        } else {
+            style.about_paths(random)
+        }
+    }
+
+    /// Nothing is lost, views nearly keep clause 6 or 7, and commits read some
+    /// keys and write others: whether CP and SI fail is a matter of paths.
+    fn about_paths(self, random: &mut Random) -> Style {
+        use Rule::*;
+        let keeping: &[&[Rule]] = &[
+            &[Sessions, Reads],
+            &[Prefix],
+            &[OneStepOfPrefix],
+            &[OneStepOfSnapshot],
+            &[PrefixOfWriters],
+            &[SnapshotOfWriters],
+            &[WithoutRw],
+        ];
+        let mut keeping = random.pick(keeping).to_vec();
+        if random.percent(70) {
+            keeping.push(Written);
+        }
+        Style {
+            keys: random.between(2, 5),
+            clients: random.between(2, 6),
+            commits: random.between(5, 14),
+            seeing: Seeing::Each(random.pick(&[10, 20, 30])),
+            keeping,
+            lapses: 0,
+            hides_own: 0,
+            loses: 0,
+            only_reads: random.pick(&[20, 40, 60]),
+            touched: random.pick(&[20, 40, 60]),
+            written: random.pick(&[40, 60]),
+            also_read: random.pick(&[0, 0, 30]),
+            ..self
+        }
+    }
+
+    /// Small and middling traces, now and then one of 63 commits.
+    fn anything(random: &mut Random) -> Style {
+        let commits = match random.below(100) {
+            0..=2 => random.below(2),
+            3..=59 => random.between(2, 9),
+            60..=92 => random.between(10, 16),
+            93..=98 => random.between(17, 30),
+            _ => random.between(31, Store::MAX_COMMITS),
+        };
+        let keys = match random.below(100) {
+            0..=9 => 1,
+            10..=79 => random.between(2, 4),
+            80..=94 => random.between(5, 8),
+            _ => random.between(9, Store::MAX_KEYS),
+        };
+        let clients = match random.below(100) {
+            0..=4 => 1,
+            5..=79 => random.between(2, 5),
+            _ => random.between(6, Store::MAX_CLIENTS),
+        };
+        use Rule::*;
+        let keeping: &[&[Rule]] = &[
+            &[],
+            &[Sessions],
+            &[Reads],
+            &[Sessions, Reads],
+            &[Written],
+            &[Sessions, Written],
+            &[Reads, Written],
+            &[Sessions, Reads, Written],
+            &[Everything],
+            &[Prefix],
+            &[Snapshot],
+            &[Prefix, Written],
+            &[Snapshot, Written],
+        ];
+        // Paths over many commits are slow to find.
+        let keeping = if commits > 30 { &keeping[..9] } else { keeping };
+        Style {
+            keys,
+            clients,
+            commits,
+            values: random.pick(&[1, 2, 3, 100, 1 << 32]),
+            numbering: random.pick(&[Numbering::ByOne, Numbering::WithGaps, Numbering::Wild]),
+            seeing: match random.below(10) {
+                0 => Seeing::Nothing,
+                1 => Seeing::Everything,
+                2 => Seeing::UpToSome,
+                _ => Seeing::Each(random.pick(&[5, 15, 30, 50, 80])),
+            },
+            keeping: random.pick(keeping).to_vec(),
+            lapses: random.pick(&[0, 0, 0, 5, 20]),
+            hides_own: random.pick(&[0, 0, 0, 5, 40]),
+            loses: random.pick(&[0, 0, 0, 3, 30]),
+            gains: random.pick(&[0, 0, 10, 50]),
+            empty: random.pick(&[0, 0, 5, 20]),
+            only_reads: random.pick(&[0, 20, 40]),
+            touched: random.pick(&[5, 30, 50, 80, 100]),
+            written: random.pick(&[30, 50, 80, 100]),
+            also_read: random.pick(&[0, 30, 70, 100]),
+            idle: random.pick(&[0, 0, 10, 40]),
+        }
+    }
+}
+
+/// What a record meets: the store and each client's view.
+#[derive(Clone, Debug)]
+pub struct State {
+    pub store: Store,
+    pub views: Vec<View>,
+}
+
+/// A taken trace, and for each of its records the state that it meets.
+#[derive(Clone, Debug)]
+pub struct Built {
+    pub trace: Trace,
+    pub states: Vec<State>,
+}
+
+/// Makes a trace of the given style.
+pub fn build(random: &mut Random, style: &Style) -> Built {
+    let mut builder = Builder::new(style.keys, style.clients);
+    for _ in 0..style.commits {
+        while random.percent(style.idle) {
+            let client = random.below(style.clients);
+            let unseen = builder.unseen(client);
+            let more = unseen.into_iter().filter(|_| random.percent(20)).collect();
+            builder.shift(client, more);
+        }
+        let client = random.below(style.clients);
+        builder.styled_commit(random, style, client);
+    }
+    if random.percent(style.idle) {
+        let client = random.below(style.clients);
+        builder.shift(client, builder.unseen(client));
+    }
+    builder.built()
+}
+
+#[derive(Clone, Copy, PartialEq, Eq, Debug)]
+enum Link {
+    So,
+    Wr,
+    Ww,
+    Rw,
+}
+
+/// A trace around one path of links, from a first commit to a last one. Each
+/// commit of the path keeps some rules, and then a client commits from a view
+/// that holds the last commit and what some rule wants with it; whether it
+/// must hold the first is what the clauses are about.
+pub fn build_path(random: &mut Random) -> Built {
+    use Link::*;
+    let kinds = random.pick(&[[So, Wr, Ww, Rw], [So, Wr, Rw, Rw], [Wr, Ww, Rw, Rw]]);
+    let links: Vec<Link> = (0..random.between(1, 5))
+        .map(|_| random.pick(&kinds))
+        .collect();
+    let last = links.len();
+
+    // One key for each link, one for a write of the first commit and one for
+    // a write of the last; now and then a key is used twice.
+    let keys = last + 2;
+    let mut labels: Vec<usize> = (0..keys).collect();
+    for place in 0..keys {
+        labels.swap(place, random.below(keys));
+        if random.percent(5) {
+            labels[place] = labels[0];
+        }
+    }
+    let label = |place: usize| Key(labels[place]);
+
+    // A client of its own for each commit, but for SO.
+    let mut clients = vec![0];
+    for (place, link) in links.iter().enumerate() {
+        let client = match link {
+            So => clients[place],
+            _ if random.percent(10) => random.pick(&clients),
+            _ => place + 1,
+        };
+        clients.push(client);
+    }
+    let observer = last + 1;
+
+    let mut accesses: Vec<BTreeSet<(Key, OperationKind)>> = vec![BTreeSet::new(); last + 1];
+    for (place, link) in links.iter().enumerate() {
+        let (from, to) = match link {
+            So => continue,
+            Wr => (OperationKind::Write, OperationKind::Read),
+            Ww => (OperationKind::Write, OperationKind::Write),
+            Rw => (OperationKind::Read, OperationKind::Write),
+        };
+        accesses[place].insert((label(place), from));
+        accesses[place + 1].insert((label(place), to));
+    }
+    accesses[0].insert((label(last), OperationKind::Write));
+    accesses[last].insert((label(last + 1), OperationKind::Write));
+    for accesses in &mut accesses {
+        if accesses.is_empty() {
+            // Between two SO links.
+            accesses.insert((Key(random.below(keys)), OperationKind::Read));
+        }
+    }
+
+    // RW alone says nothing of which commit comes first.
+    let mut chains: Vec<Vec<usize>> = vec![vec![0]];
+    for place in 1..=last {
+        if links[place - 1] == Rw {
+            chains.push(Vec::new());
+        }
+        chains.last_mut().expect("there is one").push(place);
+    }
+
+    let keeping = random.pick(&[
+        vec![],
+        vec![Rule::Written],
+        vec![Rule::Sessions, Rule::Reads, Rule::Written],
+        vec![Rule::Prefix],
+        vec![Rule::Snapshot, Rule::Written],
+        vec![Rule::Snapshot, Rule::Written],
+    ]);
+    let mut builder = Builder::new(keys, observer + 1);
+    let mut numbers = vec![OPENING; last + 1];
+    while !chains.is_empty() {
+        let chosen = random.below(chains.len());
+        let place = chains[chosen].remove(0);
+        if chains[chosen].is_empty() {
+            chains.swap_remove(chosen);
+        }
+        let mut writers = builder.seen(clients[place]);
+        if place > 0 && links[place - 1] == Wr {
+            writers.insert(numbers[place - 1]);
+        }
+        numbers[place] = builder.next_commit();
+        builder.plain_commit(random, clients[place], &accesses[place], &keeping, writers);
+    }
+
+    let nearly = random.pick(&[
+        vec![],
+        vec![Rule::Sessions],
+        vec![Rule::Sessions, Rule::Reads],
+        vec![Rule::OneStepOfPrefix],
+        vec![Rule::OneStepOfSnapshot],
+        vec![Rule::PrefixOfWriters],
+        vec![Rule::SnapshotOfWriters],
+        vec![Rule::Prefix],
+        vec![Rule::WithoutRw],
+    ]);
+    let observed = match random.below(3) {
+        0 => BTreeSet::new(),
+        1 => BTreeSet::from([(label(last + 1), OperationKind::Read)]),
+        _ => BTreeSet::from([(Key(random.below(keys)), OperationKind::Read)]),
+    };
+    builder.plain_commit(
+        random,
+        observer,
+        &observed,
+        &nearly,
+        BTreeSet::from([numbers[last]]),
+    );
+
+    // And something more, now and then.
+    if random.percent(30) {
+        let style = Style {
+            keys,
+            clients: observer + 1,
+            ..Style::random(random)
+        };
+        for _ in 0..random.between(1, 4) {
+            let client = random.below(style.clients);
+            builder.styled_commit(random, &style, client);
+        }
+    }
+    builder.built()
+}
+
+/// 63 commits of 32 operations by 16 clients on 16 keys, and their shifts.
+pub fn largest(random: &mut Random) -> Built {
+    let style = Style {
+        keys: Store::MAX_KEYS,
+        clients: Store::MAX_CLIENTS,
+        commits: Store::MAX_COMMITS,
+        values: 1 << 32,
+        numbering: Numbering::WithGaps,
+        seeing: random.pick(&[
+            Seeing::Nothing,
+            Seeing::Everything,
+            Seeing::UpToSome,
+            Seeing::Each(3),
+            Seeing::Each(50),
+        ]),
+        keeping: random.pick(&[
+            vec![],
+            vec![Rule::Sessions, Rule::Reads],
+            vec![Rule::Everything],
+        ]),
+        lapses: 0,
+        hides_own: random.pick(&[0, 2]),
+        loses: random.pick(&[0, 0, 5]),
+        gains: random.pick(&[0, 5]),
+        empty: 0,
+        only_reads: 0,
+        touched: 100,
+        written: 100,
+        also_read: 100,
+        idle: 0,
+    };
+    build(random, &style)
+}
+
+/// A trace whose file has exactly 65,536 bytes: 63 commits with 1,995
+/// operations together, and 305 shifts.
+pub fn exactly_full(random: &mut Random) -> Built {
+    let (shifts, mut spare) = (305, 63 * 32 - 1995);
+    let mut builder = Builder::new(Store::MAX_KEYS, Store::MAX_CLIENTS);
+    let mut shifted = 0;
+    for commit in 1..=Store::MAX_COMMITS {
+        while shifted < shifts * commit / Store::MAX_COMMITS {
+            let client = random.below(Store::MAX_CLIENTS);
+            let unseen = builder.unseen(client);
+            builder.shift(
+                client,
+                unseen.into_iter().filter(|_| random.percent(10)).collect(),
+            );
+            shifted += 1;
+        }
+        let client = random.below(Store::MAX_CLIENTS);
+        let mut accesses = Vec::new();
+        for key in builder.state.store.keys() {
+            if spare > 0 {
+                spare -= 1; // one operation less than two on this key
+            } else {
+                accesses.push((OperationKind::Read, key));
+            }
+            accesses.push((OperationKind::Write, key));
+        }
+        let number = builder.state.store.sessions_of(client).len() as u32;
+        let operations = builder.with_values(client, &accesses, || 1);
+        let mut after = builder.seen(client);
+        after.insert(builder.next_commit());
+        builder.commit(client, number, operations, &after);
+    }
+    builder.built()
+}
+
+/// The trace so far, with the state after its last record.
+struct Builder {
+    trace: Trace,
+    states: Vec<State>,
+    state: State,
+}
+
+impl Builder {
+    fn new(keys: usize, clients: usize) -> Builder {
+        let state = State {
+            store: Store::opening(keys),
+            views: vec![opening_view(keys); clients],
+        };
+        let trace = Trace {
+            keys,
+            clients,
+            records: Vec::new(),
+        };
+        Builder {
+            trace,
+            states: Vec::new(),
+            state,
+        }
+    }
+
+    fn built(self) -> Built {
+        Built {
+            trace: self.trace,
+            states: self.states,
+        }
+    }
+
+    fn next_commit(&self) -> CommitNumber {
+        CommitNumber(self.state.store.authors.len() + 1)
+    }
+
+    /// The writers that a client sees.
+    fn seen(&self, client: usize) -> Writers {
+        writers_in(&self.state.store, &self.state.views[client])
+    }
+
+    /// The writers of which a client sees nothing.
+    fn unseen(&self, client: usize) -> Writers {
+        let all = writers_in(&self.state.store, &self.state.store.versions());
+        all.difference(&self.seen(client)).copied().collect()
+    }
+
+    /// A shift of a client to more writers, or to as many.
+    fn shift(&mut self, client: usize, more: Writers) {
+        let mut writers = self.seen(client);
+        writers.extend(more);
+        let view = versions_by(&self.state.store, &writers);
+        self.states.push(self.state.clone());
+        self.trace.records.push(Record::Shift {
+            client,
+            view: view.clone(),
+        });
+        self.state.views[client] = view;
+    }
+
+    /// A commit whose view after holds the given writers.
+    fn commit(&mut self, client: usize, session: u32, operations: Vec<Operation>, after: &Writers) {
+        let author = Author { client, session };
+        let u = &self.state.views[client];
+        let store = self.state.store.with_commit(author, &operations, u);
+        let view = versions_by(&store, after);
+        self.states.push(self.state.clone());
+        self.trace.records.push(Record::Commit {
+            client,
+            session,
+            operations,
+            after: view.clone(),
+        });
+        self.state.store = store;
+        self.state.views[client] = view;
+    }
+
+    /// Gives reads the value that they must have, and writes a new one.
+    fn with_values(
+        &self,
+        client: usize,
+        accesses: &[(OperationKind, Key)],
+        mut new_value: impl FnMut() -> u32,
+    ) -> Vec<Operation> {
+        let mut operations = Vec::new();
+        for &(kind, key) in accesses {
+            let value = match kind {
+                OperationKind::Read => {
+                    let version = newest(&self.state.views[client], key);
+                    self.state.store.get(key, version).value
+                }
+                OperationKind::Write => new_value(),
+            };
+            operations.push(Operation { kind, key, value });
+        }
+        operations
+    }
+
+    /// One commit that loses nothing, after a shift to the given writers and
+    /// what the rules want with them. The client has made few commits.
+    fn plain_commit(
+        &mut self,
+        random: &mut Random,
+        client: usize,
+        accesses: &BTreeSet<(Key, OperationKind)>,
+        rules: &[Rule],
+        mut writers: Writers,
+    ) {
+        let accesses: Vec<(OperationKind, Key)> =
+            accesses.iter().map(|&(key, kind)| (kind, key)).collect();
+        writers.extend(self.seen(client));
+        self.keep(rules, &accesses, &mut writers);
+        if writers != self.seen(client) {
+            self.shift(client, writers.clone());
+        }
+        let operations = self.with_values(client, &accesses, || random.below(3) as u32);
+        if accesses
+            .iter()
+            .any(|access| access.0 == OperationKind::Write)
+        {
+            writers.insert(self.next_commit());
+        }
+        let session = self.state.store.sessions_of(client).len() as u32;
+        self.commit(client, session, operations, &writers);
+    }
+
+    /// One commit as a style has it, with a shift before it if it needs one.
+    /// Nothing comes of it if the client has no session number left.
+    fn styled_commit(&mut self, random: &mut Random, style: &Style, client: usize) {
+        let Some(session) = self.next_session(random, style.numbering, client) else {
+            return;
+        };
+        let accesses = accesses(random, style);
+
+        let seen = self.seen(client);
+        let mut writers = seen.clone();
+        self.see_more(random, style.seeing, &mut writers);
+        if !random.percent(style.lapses) {
+            self.keep(&style.keeping, &accesses, &mut writers);
+        }
+        if writers != seen || random.percent(style.idle) {
+            if random.percent(20) {
+                // Part of the way first.
+                let part = writers
+                    .iter()
+                    .filter(|_| random.percent(50))
+                    .copied()
+                    .collect();
+                self.shift(client, part);
+            }
+            self.shift(client, writers.clone());
+        }
+
+        let operations = self.with_values(client, &accesses, || random.below(style.values) as u32);
+        let touched: BTreeSet<Key> = accesses.iter().map(|access| access.1).collect();
+        let mut after = writers.clone();
+        for writer in self.free_writers(&touched) {
+            if writers.contains(&writer) {
+                if random.percent(style.loses) {
+                    after.remove(&writer);
+                }
+            } else if random.percent(style.gains) {
+                after.insert(writer);
+            }
+        }
+        let writes = accesses
+            .iter()
+            .any(|access| access.0 == OperationKind::Write);
+        if writes && !random.percent(style.hides_own) {
+            after.insert(self.next_commit());
+        }
+        self.commit(client, session, operations, &after);
+    }
+
+    /// A number above all of the client's that appear in the store.
+    fn next_session(
+        &self,
+        random: &mut Random,
+        numbering: Numbering,
+        client: usize,
+    ) -> Option<u32> {
+        let least = match self.state.store.sessions_of(client).last() {
+            Some(largest) => largest.checked_add(1)?,
+            None => 0,
+        };
+        let gap = match numbering {
+            Numbering::ByOne => 0,
+            Numbering::WithGaps => random.below(4) as u32,
+            Numbering::Wild => {
+                let room = u32::MAX - least;
+                match random.below(20) {
+                    0 => room,
+                    1 => room / 2,
+                    _ => random.below(room as usize / 8 + 1) as u32,
+                }
+            }
+        };
+        Some(least.saturating_add(gap))
+    }
+
+    fn see_more(&self, random: &mut Random, seeing: Seeing, writers: &mut Writers) {
+        let last = self.next_commit().0 - 1;
+        let bound = random.below(last + 1);
+        for number in 1..=last {
+            let sees = match seeing {
+                Seeing::Nothing => false,
+                Seeing::Everything => true,
+                Seeing::UpToSome => number <= bound,
+                Seeing::Each(percent) => random.percent(percent),
+            };
+            if sees {
+                writers.insert(CommitNumber(number));
+            }
+        }
+        self.drop_non_writers(writers);
+    }
+
+    /// Adds writers until a view for a commit with these accesses keeps the
+    /// rules.
+    fn keep(&self, rules: &[Rule], accesses: &[(OperationKind, Key)], writers: &mut Writers) {
+        writers.extend(self.needed(rules, accesses));
+        let links = self.links(rules);
+        self.widen(&links, writers);
+    }
+
+    /// The writers that rules want of any view.
+    fn needed(&self, rules: &[Rule], accesses: &[(OperationKind, Key)]) -> Writers {
+        let store = &self.state.store;
+        let mut needed = View::new();
+        for (key, version) in store.versions() {
+            let written = accesses.contains(&(OperationKind::Write, key));
+            let wanted =
+                rules.contains(&Rule::Everything) || rules.contains(&Rule::Written) && written;
+            if wanted {
+                needed.insert((key, version));
+            }
+        }
+        writers_in(store, &needed)
+    }
+
+    /// The links from a writer that rules want to one of which a view holds
+    /// something.
+    fn links(&self, rules: &[Rule]) -> Relation {
+        let store = &self.state.store;
+        let mut links = Relation::new();
+        for rule in rules {
+            links.extend(match rule {
+                Rule::Written | Rule::Everything => Relation::new(),
+                Rule::Sessions => so(store),
+                Rule::Reads => read_links(store),
+                Rule::Prefix => prefix_paths(store),
+                Rule::Snapshot => snapshot_paths(store),
+                Rule::OneStepOfPrefix => prefix_steps(store),
+                Rule::OneStepOfSnapshot => snapshot_steps(store),
+                Rule::PrefixOfWriters => one_or_more(&self.among_writers(prefix_steps(store))),
+                Rule::SnapshotOfWriters => one_or_more(&self.among_writers(snapshot_steps(store))),
+                Rule::WithoutRw => one_or_more(&union(&[so(store), wr(store), ww(store)])),
+            });
+        }
+        links
+    }
+
+    /// Adds writers until nothing is missing by the links.
+    fn widen(&self, links: &Relation, writers: &mut Writers) {
+        loop {
+            let mut wider = writers.clone();
+            for (before, commit) in links {
+                if writers.contains(commit) {
+                    wider.insert(*before);
+                }
+            }
+            self.drop_non_writers(&mut wider);
+            if wider == *writers {
+                return;
+            }
+            *writers = wider;
+        }
+    }
+
+    /// The links from a writer to a writer.
+    fn among_writers(&self, mut links: Relation) -> Relation {
+        let all = writers_in(&self.state.store, &self.state.store.versions());
+        links.retain(|link| all.contains(&link.0) && all.contains(&link.1));
+        links
+    }
+
+    fn drop_non_writers(&self, writers: &mut Writers) {
+        let all = writers_in(&self.state.store, &self.state.store.versions());
+        writers.retain(|writer| all.contains(writer));
+    }
+
+    /// The writers whose versions are all at touched keys: a view after may
+    /// lose or gain them.
+    fn free_writers(&self, touched: &BTreeSet<Key>) -> Writers {
+        let store = &self.state.store;
+        let mut free = writers_in(store, &store.versions());
+        free.remove(&OPENING);
+        for (key, version) in store.versions() {
+            if !touched.contains(&key) {
+                free.remove(&store.get(key, version).writer);
+            }
+        }
+        free
+    }
+}
+
+/// The reads and writes of one commit, rising by key and then kind.
+fn accesses(random: &mut Random, style: &Style) -> Vec<(OperationKind, Key)> {
+    let mut accesses = Vec::new();
+    if random.percent(style.empty) {
+        return accesses;
+    }
+    let only_reads = random.percent(style.only_reads);
+    let always = random.below(style.keys);
+    for key in (0..style.keys).map(Key) {
+        if key.0 == always || random.percent(style.touched) {
+            let writes = !only_reads && random.percent(style.written);
+            if !writes || random.percent(style.also_read) {
+                accesses.push((OperationKind::Read, key));
+            }
+            if writes {
+                accesses.push((OperationKind::Write, key));
+            }
+        }
+    }
+    accesses
+}
+
+/// The writer of each version that clause 4 wants of a view with t, to t.
+fn read_links(store: &Store) -> Relation {
+    let so = so(store);
+    let mut links = Relation::new();
+    for (key, version) in store.versions() {
+        let stored = store.get(key, version);
+        for &reader in &stored.readers {
+            links.insert((stored.writer, reader));
+            for link in &so {
+                if link.0 == reader {
+                    links.insert((stored.writer, link.1));
+                }
+            }
+        }
+    }
+    links
+}
+
+/// All versions by some writers; those by the opening transaction always.
+pub fn versions_by(store: &Store, writers: &Writers) -> View {
+    let mut view = store.versions();
+    view.retain(|&(key, version)| {
+        let writer = store.get(key, version).writer;
+        writer == OPENING || writers.contains(&writer)
+    });
+    view
+}

@@ -1,0 +1,33 @@
+//! Section "Traces from the bench", its end: the report as text. Each line
+//! ends with one line feed.
+
+use crate::levels::LEVELS;
+use crate::{Answer, Verdict};
+
+pub fn report(answer: &Answer) -> String {
+    match answer {
+        Answer::Refused(refusal) => format!(
+            "refused {} record {} key {} version {}\n",
+            refusal.code, refusal.record, refusal.key, refusal.version
+        ),
+        Answer::Judged(report) => {
+            let mut text = format!("records {} commits {}\n", report.records, report.commits);
+            for (level, verdict) in LEVELS.iter().zip(&report.verdicts) {
+                text += level.name;
+                text += &match verdict {
+                    Verdict::Accepted => " accepted\n".to_string(),
+                    Verdict::Refused {
+                        record,
+                        clause,
+                        key,
+                        version,
+                        ..
+                    } => format!(
+                        " refused record {record} clause {clause} key {key} version {version}\n"
+                    ),
+                };
+            }
+            text
+        }
+    }
+}

@@ -1,0 +1,140 @@
+//! The traces of the bench against the model.
+
+use model::bench_traces::{all, trace_a, trace_b, Expected};
+use model::trace::encode;
+use model::{judge, report, Answer};
+
+const FILLER: u8 = 0xA5;
+
+#[test]
+fn all_bench_traces() {
+    for bench in all() {
+        let mut image = vec![FILLER; 20_000];
+        let answer = judge(&bench.bytes, &mut image);
+        match (answer, bench.expected) {
+            (Answer::Refused(refusal), Expected::Refused(expected)) => {
+                assert_eq!(refusal, expected, "trace {}", bench.name);
+                assert!(
+                    image.iter().all(|&byte| byte == FILLER),
+                    "trace {}",
+                    bench.name
+                );
+            }
+            (Answer::Judged(report), Expected::Judged(expected)) => {
+                assert_eq!(report.verdicts, expected, "trace {}", bench.name);
+                assert_eq!(
+                    report.records,
+                    bench.trace.records.len(),
+                    "trace {}",
+                    bench.name
+                );
+                let rest = &image[report.image_len..];
+                assert!(
+                    rest.iter().all(|&byte| byte == FILLER),
+                    "trace {}",
+                    bench.name
+                );
+            }
+            _ => panic!("trace {}: {answer:?}", bench.name),
+        }
+    }
+}
+
+#[test]
+fn image_of_a() {
+    let mut image = [FILLER; 30];
+    let Answer::Judged(judged) = judge(&encode(&trace_a()), &mut image) else {
+        panic!()
+    };
+    assert_eq!(
+        (judged.records, judged.commits, judged.image_len),
+        (0, 0, 28)
+    );
+    let mut expected = vec![28, 0, 0, 0, 1, 0, 0, 0];
+    expected.extend([1, 0, 0, 0]);
+    expected.extend([0; 16]);
+    expected.extend([FILLER, FILLER]);
+    assert_eq!(image.to_vec(), expected);
+}
+
+#[test]
+fn image_of_b() {
+    let file = encode(&trace_b());
+    assert_eq!(file.len(), 80);
+    let mut image = [FILLER; 77];
+    let Answer::Judged(judged) = judge(&file, &mut image) else {
+        panic!()
+    };
+    assert_eq!(
+        (judged.records, judged.commits, judged.image_len),
+        (2, 2, 76)
+    );
+    let mut expected = vec![76, 0, 0, 0, 1, 2, 0, 0];
+    expected.extend([0, 0, 0, 0, 0, 0, 0, 0]); // client 0, number 0
+    expected.extend([1, 0, 0, 0, 0, 0, 0, 0]); // client 1, number 0
+    expected.extend([3, 0, 0, 0]);
+    expected.extend([0, 0, 0, 0, 0, 0, 0, 0, 6, 0, 0, 0, 0, 0, 0, 0]); // read by 1 and 2
+    expected.extend([1, 0, 0, 0, 1, 0, 0, 0, 0, 0, 0, 0, 0, 0, 0, 0]);
+    expected.extend([1, 0, 0, 0, 2, 0, 0, 0, 0, 0, 0, 0, 0, 0, 0, 0]);
+    expected.push(FILLER);
+    assert_eq!(image.to_vec(), expected);
+}
+
+#[test]
+fn report_of_b() {
+    let mut image = [0; 76];
+    let answer = judge(&encode(&trace_b()), &mut image);
+    let expected = "\
+records 2 commits 2
+MR accepted
+MW accepted
+RYW accepted
+WFR accepted
+CC accepted
+UA refused record 2 clause 5 key 0 version 1
+PSI refused record 2 clause 5 key 0 version 1
+CP accepted
+SI refused record 2 clause 5 key 0 version 1
+SER refused record 2 clause 8 key 0 version 1
+";
+    assert_eq!(report(&answer), expected);
+}
+
+#[test]
+fn report_of_a_refusal() {
+    let answer = judge(&[], &mut []);
+    assert_eq!(report(&answer), "refused 1 record 0 key 0 version 0\n");
+}
+
+#[test]
+fn short_image_buffer() {
+    let file = encode(&trace_b());
+    for length in 0..76 {
+        let mut image = vec![FILLER; length];
+        let Answer::Refused(refusal) = judge(&file, &mut image) else {
+            panic!()
+        };
+        assert_eq!((refusal.code, refusal.record), (15, 0));
+        assert!(image.iter().all(|&byte| byte == FILLER));
+    }
+}
+
+#[test]
+fn every_cut_of_every_trace_is_answered() {
+    for bench in all() {
+        for length in 0..bench.bytes.len() {
+            let mut cut = bench.bytes[..length].to_vec();
+            let Answer::Refused(refusal) = judge(&cut, &mut []) else {
+                panic!()
+            };
+            assert_eq!(refusal.code, 1);
+            if length >= 12 {
+                cut[..4].copy_from_slice(&(length as u32).to_le_bytes());
+                let Answer::Refused(refusal) = judge(&cut, &mut []) else {
+                    panic!()
+                };
+                assert!([3, 4, 6, 7].contains(&refusal.code), "{refusal:?}");
+            }
+        }
+    }
+}

@@ -1,0 +1,242 @@
+//! Sentences of the paper that could be read in two ways, each pinned by a
+//! small file.
+
+use model::store::{Key, Version, View};
+use model::trace::{encode, Operation, Record, Trace};
+use model::{judge, Answer, Refusal, Report};
+
+fn view(held: &[&[usize]]) -> View {
+    let mut view = View::new();
+    for (key, versions) in held.iter().enumerate() {
+        view.extend(versions.iter().map(|&version| (Key(key), Version(version))));
+    }
+    view
+}
+
+fn shift(client: usize, held: &[&[usize]]) -> Record {
+    Record::Shift {
+        client,
+        view: view(held),
+    }
+}
+
+fn commit(client: usize, session: u32, operations: &[Operation], held: &[&[usize]]) -> Record {
+    Record::Commit {
+        client,
+        session,
+        operations: operations.to_vec(),
+        after: view(held),
+    }
+}
+
+fn read(key: usize, value: u32) -> Operation {
+    Operation::read(key, value)
+}
+
+fn write(key: usize, value: u32) -> Operation {
+    Operation::write(key, value)
+}
+
+fn file(keys: usize, clients: usize, records: &[Record]) -> Vec<u8> {
+    encode(&Trace {
+        keys,
+        clients,
+        records: records.to_vec(),
+    })
+}
+
+fn with_length(mut file: Vec<u8>) -> Vec<u8> {
+    let length = file.len() as u32;
+    file[..4].copy_from_slice(&length.to_le_bytes());
+    file
+}
+
+fn refusal(file: &[u8]) -> Refusal {
+    match judge(file, &mut [0; 17_000]) {
+        Answer::Refused(refusal) => refusal,
+        Answer::Judged(report) => panic!("{report:?}"),
+    }
+}
+
+fn refused(file: &[u8]) -> (u8, usize, usize, usize) {
+    let refusal = refusal(file);
+    (refusal.code, refusal.record, refusal.key, refusal.version)
+}
+
+fn taken(file: &[u8]) -> (Report, Vec<u8>) {
+    let mut image = vec![0; 17_000];
+    match judge(file, &mut image) {
+        Answer::Judged(report) => (report, image[..report.image_len].to_vec()),
+        Answer::Refused(refusal) => panic!("{refusal:?}"),
+    }
+}
+
+#[test]
+fn the_kind_is_looked_at_before_the_length() {
+    let good = file(1, 1, &[shift(0, &[&[0]])]);
+    for (length, kind, code) in [(0, 9, 4), (0, 2, 3), (0, 3, 3), (14, 1, 4), (13, 2, 3)] {
+        let mut bytes = good.clone();
+        bytes[12] = length;
+        bytes[14] = kind;
+        assert_eq!(refused(&bytes), (code, 1, 0, 0));
+    }
+}
+
+#[test]
+fn the_byte_m_beyond_the_end() {
+    for left in 0..6 {
+        let bytes = file(1, 1, &[commit(0, 0, &[], &[&[0]])]);
+        assert_eq!(
+            refused(&with_length(bytes[..12 + left].to_vec())),
+            (3, 1, 0, 0)
+        );
+    }
+}
+
+#[test]
+fn a_count_that_is_too_large_or_too_small() {
+    let good = file(1, 1, &[shift(0, &[&[0]]), shift(0, &[&[0]])]);
+    for (count, expected) in [(3, (3, 3, 0, 0)), (1, (5, 1, 0, 0)), (0, (5, 0, 0, 0))] {
+        let mut bytes = good.clone();
+        bytes[10] = count;
+        assert_eq!(refused(&bytes), expected);
+    }
+}
+
+#[test]
+fn every_byte_called_zero_is_looked_at() {
+    let shifted = file(1, 1, &[shift(0, &[&[0]])]);
+    let mut bytes = shifted.clone();
+    bytes[17] = 1;
+    assert_eq!(refused(&bytes), (7, 1, 0, 0));
+    let written = file(1, 1, &[commit(0, 0, &[write(0, 1)], &[&[0, 1]])]);
+    for place in [24, 25] {
+        let mut bytes = written.clone();
+        bytes[place] = 1;
+        assert_eq!(refused(&bytes), (7, 1, 0, 0));
+    }
+}
+
+#[test]
+fn more_operations_than_fit_are_out_of_order() {
+    let bytes = file(
+        1,
+        1,
+        &[commit(
+            0,
+            0,
+            &[read(0, 0), write(0, 1), write(0, 2)],
+            &[&[0]],
+        )],
+    );
+    assert_eq!(refused(&bytes), (7, 1, 0, 0));
+}
+
+#[test]
+fn six_before_seven_before_eight_before_meaning() {
+    let mut records = vec![commit(0, 0, &[read(0, 5)], &[&[0]])];
+    records.extend((1..64).map(|_| commit(0, 0, &[], &[&[0]])));
+    assert_eq!(refused(&file(1, 1, &records)), (8, 64, 0, 0));
+    records[63] = commit(0, 0, &[write(0, 0), read(0, 0)], &[&[0]]);
+    assert_eq!(refused(&file(1, 1, &records)), (7, 64, 0, 0));
+    records[63] = commit(1, 0, &[write(0, 0), read(0, 0)], &[&[0]]);
+    assert_eq!(refused(&file(1, 1, &records)), (6, 64, 0, 0));
+    records.truncate(63);
+    assert_eq!(refused(&file(1, 1, &records)), (13, 1, 0, 0));
+}
+
+#[test]
+fn a_commit_without_operations_has_a_number_too() {
+    let five = commit(0, 5, &[read(0, 0)], &[&[0]]);
+    let empty = |session| commit(0, session, &[], &[&[0]]);
+    assert_eq!(
+        refused(&file(1, 1, &[five.clone(), empty(5)])),
+        (9, 2, 0, 0)
+    );
+    taken(&file(1, 1, &[empty(9), empty(9), empty(3), five, empty(6)]));
+}
+
+#[test]
+fn ten_over_all_keys_before_eleven() {
+    let both = commit(0, 0, &[write(0, 1), write(1, 1)], &[&[0, 1], &[0, 1]]);
+    let half_and_bad = shift(1, &[&[0], &[0, 1, 2]]);
+    assert_eq!(
+        refused(&file(2, 2, &[both.clone(), half_and_bad])),
+        (10, 2, 1, 0)
+    );
+    let half = shift(1, &[&[0], &[0, 1]]);
+    assert_eq!(refused(&file(2, 2, &[both, half])), (11, 2, 0, 1));
+}
+
+#[test]
+fn eleven_names_the_least_over_all_writers() {
+    let records = [
+        commit(0, 0, &[write(1, 1), write(2, 1)], &[&[0], &[0, 1], &[0, 1]]),
+        commit(
+            0,
+            1,
+            &[write(0, 1), write(2, 1)],
+            &[&[0, 1], &[0, 1], &[0, 1, 2]],
+        ),
+        shift(1, &[&[0], &[0], &[0, 1, 2]]),
+    ];
+    assert_eq!(refused(&file(3, 2, &records)), (11, 3, 0, 1));
+}
+
+#[test]
+fn eleven_before_twelve_and_fourteen() {
+    let both = commit(0, 0, &[write(0, 1), write(1, 1)], &[&[0, 1], &[0, 1]]);
+    let lost = shift(0, &[&[0], &[0, 1]]);
+    assert_eq!(refused(&file(2, 1, &[both.clone(), lost])), (11, 2, 0, 1));
+    let lost = shift(0, &[&[0], &[0]]);
+    assert_eq!(refused(&file(2, 1, &[both.clone(), lost])), (12, 2, 0, 1));
+    let left = commit(0, 1, &[read(0, 1)], &[&[0], &[0, 1]]);
+    assert_eq!(refused(&file(2, 1, &[both.clone(), left])), (11, 2, 0, 1));
+    let left = commit(0, 1, &[read(0, 1)], &[&[0], &[0]]);
+    assert_eq!(refused(&file(2, 1, &[both, left])), (14, 2, 1, 0));
+}
+
+#[test]
+fn the_view_after_is_of_the_new_store() {
+    // Half of the commit's own versions.
+    let half = commit(0, 0, &[write(0, 1), write(1, 1)], &[&[0, 1], &[0]]);
+    assert_eq!(refused(&file(2, 1, &[half])), (11, 1, 1, 1));
+    let too_new = commit(0, 0, &[write(0, 1)], &[&[0, 1, 2]]);
+    assert_eq!(refused(&file(1, 1, &[too_new])), (10, 1, 0, 0));
+}
+
+#[test]
+fn at_a_key_that_is_read_the_view_after_may_gain() {
+    let records = [
+        commit(0, 0, &[write(0, 1)], &[&[0, 1]]),
+        commit(1, 0, &[read(0, 0)], &[&[0, 1]]),
+    ];
+    taken(&file(1, 2, &records));
+}
+
+#[test]
+fn a_read_of_a_key_also_written_sees_the_version_before() {
+    let records = [commit(0, 0, &[read(0, 0), write(0, 7)], &[&[0, 1]])];
+    let (_, image) = taken(&file(1, 1, &records));
+    // Version 0 is read by commit 1, version 1 by none.
+    assert_eq!(
+        image[20..36],
+        [0, 0, 0, 0, 0, 0, 0, 0, 2, 0, 0, 0, 0, 0, 0, 0]
+    );
+    assert_eq!(
+        image[36..52],
+        [7, 0, 0, 0, 1, 0, 0, 0, 0, 0, 0, 0, 0, 0, 0, 0]
+    );
+}
+
+#[test]
+fn a_commit_without_operations_is_judged_from_its_view() {
+    let records = [
+        commit(0, 0, &[write(0, 1)], &[&[0, 1]]),
+        commit(1, 0, &[], &[&[0]]),
+    ];
+    let (report, _) = taken(&file(1, 2, &records));
+    let text = model::report(&Answer::Judged(report));
+    assert!(text.ends_with("SER refused record 2 clause 8 key 0 version 1\n"));
+    assert_eq!(text.matches(" accepted").count(), 9);
+}
