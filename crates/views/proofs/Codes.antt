@@ -3,11 +3,11 @@ use Prim.Native.Nat.{ℕ, _+_, _*_, _^_, _≤_, _<_}
 use mathlib.Core.Path.{_≡_, refl, sym, ap, _∙_}
 use mathlib.Core.Bool.{Bool, true, false, not, _&&_, _||_}
 use mathlib.Core.Logic.{_⊎_, _↔_, _≢_, inl, inr}
-use mathlib.Core.Option.{Option, some, none}
+use mathlib.Core.Option.{some, none}
+use mathlib.Core.List.{List}
 use native.Mathlib.Omega.{arith}
 use native.Mathlib.Decide.{decLe, decLt}
-use mathlib.Core.List.{List}
-use lib.Dec.{T, eqb, leb, T-not, not-T}
+use lib.Dec.{T, leb, T-not, not-T}
 use borrow.Author.Tests.{eq-eqb, ne-eqb}
 use Rattle.search.specs.Choose.{isSome}
 use Rattle.search.specs.Search.{any, least}

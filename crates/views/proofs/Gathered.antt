@@ -1,25 +1,23 @@
 -- Sets of commits gathered by a loop: over the numbers of a set, and over the keys. Assumes nothing.
-use Prim.Native.Nat.{ℕ, _+_, _^_, _≤_, _<_}
-use mathlib.Core.Path.{_≡_, refl, sym, ap, _∙_, subst}
-use mathlib.Core.Logic.{_⊎_, inl, inr, _↔_, _≢_}
+use Prim.Native.Nat.{ℕ, _+_, _^_, _<_}
+use mathlib.Core.Path.{_≡_, sym, ap, _∙_, subst}
+use mathlib.Core.Logic.{_⊎_, inl, inr, _≢_}
 use mathlib.Core.List.{List}
 use native.Mathlib.Omega.{arith}
 use native.Mathlib.Decide.{ℕ-discrete}
 use lib.Dec.{T}
-use lib.Bits.{bitAnd}
 use lib.ListN.{length, getD, set}
 use lib.Seq.{getD-set-same, getD-set-other}
 use Rattle.search.proofs.Tests.{both, stable, T?}
-use Rattle.sets.specs.Set.{Set, has, single, insert, union, lowest, without}
+use Rattle.sets.specs.Set.{has, single, insert, union, lowest, without}
 use Rattle.sets.proofs.Laws.{has-none, has-lowest, single-has, single-only}
 use Rattle.sets.proofs.Algebra.{without-is, without-word}
 use Rattle.state.specs.Places.{headPlace, writersPlace}
 use Rattle.state.specs.Keeps.{IsSet}
-use Rattle.state.proofs.Sets.{isSet-none, isSet-union, isSet-insert, isSet-without}
+use Rattle.state.proofs.Sets.{isSet-none, isSet-union, isSet-insert}
 use Rattle.views.specs.Words.{writerIn}
-use Rattle.views.specs.Gained.{WriterAmong, GainedAt, Gains, LackingAt, HalfGained}
+use Rattle.views.specs.Gained.{WriterAmong, GainedAt, Gains, LackingAt, LackingBelow}
 use Rattle.views.proofs.Tests.{has-as}
-use Rattle.views.proofs.Words.{both-is}
 
 -- ---- over the numbers of a set
 
@@ -42,28 +40,36 @@ module _ (versions : List ℕ) (k among : ℕ) where
     gathering-on p {v} {w} {rest} {more} low by e f = record {
       word = rw e (without-word left (single (lowest left)) (g .word));
       within = λ i x. g .within i (still i x);
-      so-far = λ t. (λ x. out t (isSet-insert w writers (g .so-far) t .0 (has-as t f x)), λ x. has-as t (sym f) (isSet-insert w writers (g .so-far) t .1 (back t x)))
+      so-far = λ t. (λ x. out t (isSet-insert w writers (g .so-far) t .0 (has-as t f x)), λ x. has-as t (sym f) (isSet-insert w writers (g .so-far) t .1 (back t x)));
     }
       where
         After : ℕ → Type 0
         After t = (i : ℕ) × T (has among i) × (¬ T (has rest i)) × (writerIn (getD versions (headPlace k i) 0) ≡ t)
+
         Before : ℕ → Type 0
         Before t = (i : ℕ) × T (has among i) × (¬ T (has left i)) × (writerIn (getD versions (headPlace k i) 0) ≡ t)
+
         in-left : T (has left v)
         in-left = rw low (has-lowest left (omega arith) (g .word))
+
         still : (i : ℕ) → T (has rest i) → T (has left i)
         still i x = without-is left (single (lowest left)) i .0 (has-as i e x) .0
+
         gone : ¬ T (has rest v)
         gone x = without-is left (single (lowest left)) v .0 (has-as v e x) .1 (rw low (single-has (lowest left)))
+
         out : (t : ℕ) → (t ≡ w) ⊎ Before t → After t
         out t (inl q) = (v, g .within v in-left, gone, sym by ∙ sym q)
         out t (inr (i, h, n, q)) = (i, h, (λ x. n (still i x)), q)
+
         last : (i : ℕ) → T (has left i) → ¬ T (has rest i) → i ≡ v
         last i y n =
             single-only (lowest left) i (stable (has (single (lowest left)) i) (λ z. n (has-as i (sym e) (without-is left (single (lowest left)) i .1 (y, z))))) ∙ sym low
+
         cases : (t i : ℕ) → T (has among i) → ¬ T (has rest i) → writerIn (getD versions (headPlace k i) 0) ≡ t → Dec (T (has left i)) → (t ≡ w) ⊎ Before t
         cases t i h n q (no m) = inr (i, h, m, q)
         cases t i h n q (yes y) = inl (sym q ∙ ap (λ (j : ℕ). writerIn (getD versions (headPlace k j) 0)) (last i y n) ∙ sym by)
+
         back : (t : ℕ) → After t → (t ≡ w) ⊎ Before t
         back t (i, h, n, q) = cases t i h n q (T? (has left i))
 
@@ -84,6 +90,7 @@ module _ (P : ℕ → ℕ → Type 0) where
       out : ((l : ℕ) × (l < k) × P l t) ⊎ P k t → (l : ℕ) × (l < k + 1) × P l t
       out (inl (l, m, x)) = (l, omega arith, x)
       out (inr x) = (k, omega arith, x)
+
       back : (l : ℕ) → l < k + 1 → P l t → Dec (l ≡ k) → ((l : ℕ) × (l < k) × P l t) ⊎ P k t
       back l m x (yes z) = inr (subst (λ (j : ℕ). P j t) z x)
       back l m x (no z) = inl (l, omega arith, x)
@@ -98,25 +105,20 @@ module _ (versions fresh masks : List ℕ) (base : ℕ) where
       → more ≡ union all w → Gains versions fresh masks base (k + 1) (set gain k w) more
   gains-more k all w {m} {more} {gain} g l q s e = record {
     each = λ i b. each i b (ℕ-discrete i k);
-    whole = keys-more (GainedAt versions fresh masks base) k all w (g .whole) p e
+    whole = keys-more (GainedAt versions fresh masks base) k all w (g .whole) p e;
   }
     where
       p : IsSet w (GainedAt versions fresh masks base k)
       p = rw (← q) s
+
       each : (i : ℕ) → i < k + 1 → Dec (i ≡ k) → IsSet (getD (set gain k w) i 0) (GainedAt versions fresh masks base i)
       each i b (yes q) = rw (q, getD-set-same gain k w 0 l) p
       each i b (no q) = rw (getD-set-other gain k i w 0 q) (g .each i (omega arith))
 
 -- what each key lacks
 module _ (keys gain : List ℕ) where
-  abbrev pub LackingBelow : ℕ → ℕ → Type 0
-  LackingBelow k t = (l : ℕ) × (l < k) × LackingAt keys gain l t
-
-  pub lacking-none : IsSet 0 (LackingBelow 0)
+  pub lacking-none : IsSet 0 (LackingBelow keys gain 0)
   lacking-none = keys-none (LackingAt keys gain)
 
-  pub lacking-more : (k a b : ℕ) {c : ℕ} → IsSet a (LackingBelow k) → b ≡ without (getD keys (writersPlace k) 0) (getD gain k 0) → c ≡ union a b → IsSet c (LackingBelow (k + 1))
+  pub lacking-more : (k a b : ℕ) {c : ℕ} → IsSet a (LackingBelow keys gain k) → b ≡ without (getD keys (writersPlace k) 0) (getD gain k 0) → c ≡ union a b → IsSet c (LackingBelow keys gain (k + 1))
   lacking-more k a b p q e = keys-more (LackingAt keys gain) k a b p (λ t. rw q (without-is (getD keys (writersPlace k) 0) (getD gain k 0) t)) e
-
-  pub half-of : (all a n : ℕ) → IsSet a (LackingBelow n) → IsSet (bitAnd all a) (HalfGained keys gain n all)
-  half-of all a n p t = both (both-is all a t) (λ (x, y). (x, p t .0 y), λ (x, y). (x, p t .1 y))

@@ -7,4 +7,6 @@ pub mod Gathered
 pub mod Agree
 pub mod Grown
 pub mod OpeningView
+pub mod AtOnce
+pub mod Written
 pub mod Rows

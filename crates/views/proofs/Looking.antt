@@ -1,19 +1,17 @@
 -- The search for the first missing version, key by key: at a key the versions that may be missing are a set, and the search looks at its numbers in
 -- order. Assumes nothing.
 use Prim.Native.Nat.{ℕ, _^_, _≤_, _<_}
-use mathlib.Core.Path.{_≡_, refl, sym, ap, _∙_, subst}
-use mathlib.Core.Bool.{Bool}
+use mathlib.Core.Path.{_≡_, sym, _∙_, subst}
 use mathlib.Core.Logic.{_≢_}
-use mathlib.Core.Option.{Option, some, none}
+use mathlib.Core.Option.{some, none}
 use native.Mathlib.Omega.{arith}
-use native.Mathlib.Decide.{ℕ-discrete}
 use lib.Dec.{T}
 use Rattle.search.proofs.Tests.{stable}
 use Rattle.sets.specs.Set.{has, below, lowest, single, without}
 use Rattle.sets.proofs.Laws.{has-none, has-below, below-has, has-lowest, lowest-least, single-only}
 use Rattle.sets.proofs.Algebra.{without-is, without-word}
 use Rattle.store.specs.Store.{Key, View, Store, count}
-use Rattle.store.specs.Missing.{Place, Rule, missing}
+use Rattle.store.specs.Missing.{Rule, missing}
 use Rattle.store.specs.Refusal.{allOf}
 use Rattle.store.proofs.Sound.{IsView}
 use Rattle.store.proofs.Missing.{MetAt, missing-none, missing-found}
@@ -31,7 +29,7 @@ module _ (s : Store) (want : Rule) (u : View) (k : Key) where
   looking-all {full} {mask} {left} b e f q = rw q (record {
     word = without-word full mask b;
     within = λ i t. let w = without-is full mask i .0 t in (below-has (count s k) i (has-as i e (w .0)), λ h. w .1 (has-as i (sym f) h));
-    waits = λ i l t n. without-is full mask i .1 (has-as i (sym e) (has-below (count s k) i l), λ h. n (has-as i f h))
+    waits = λ i l t n. without-is full mask i .1 (has-as i (sym e) (has-below (count s k) i l), λ h. n (has-as i f h));
   })
 
   module _ {left : ℕ} (h : Looking s want u k left) where
@@ -52,7 +50,7 @@ module _ (s : Store) (want : Rule) (u : View) (k : Key) where
         word = rw e (without-word left (single (lowest left)) (h .word));
         within = λ i t. h .within i (without-is left (single (lowest left)) i .0 (has-as i e t) .0);
         waits = λ i l t m. has-as i (sym e) (without-is left (single (lowest left)) i .1
-          (h .waits i l t m, λ x. n (h .within v lowest-in .0) (subst (λ (j : ℕ). T (want k j)) (single-only (lowest left) i x ∙ sym low) t)))
+            (h .waits i l t m, λ x. n (h .within v lowest-in .0) (subst (λ (j : ℕ). T (want k j)) (single-only (lowest left) i x ∙ sym low) t)));
       }
 
       -- it is wanted: the first
@@ -64,14 +62,13 @@ module _ (s : Store) (want : Rule) (u : View) (k : Key) where
           earlier : (j : ℕ) → j < v → T (has left j) → ⊥
           earlier j m x = let g : lowest left ≤ j = lowest-least left some-left (h .word) j x in omega arith
 
-
 module _ (s : Store) (u : View) (k : Key) where
   -- the versions of another view that the mask lacks
   pub looking-lost : (old : View) → IsView s old → {view mask left : ℕ} → view < 2 ^ 64 → view ≡ old k → mask ≡ u k → left ≡ without view mask → Looking s (allOf old) u k left
   looking-lost old v {view} {mask} {left} b e f q = rw q (record {
     word = without-word view mask b;
     within = λ i t. let w = without-is view mask i .0 t in (v .exist k i (has-as i e (w .0)), λ h. w .1 (has-as i (sym f) h));
-    waits = λ i l t n. without-is view mask i .1 (has-as i (sym e) t, λ h. n (has-as i f h))
+    waits = λ i l t n. without-is view mask i .1 (has-as i (sym e) t, λ h. n (has-as i f h));
   })
 
   -- the lowest of them is wanted

@@ -1,25 +1,22 @@
 -- The view {0} at each key is a view of every store of a run, and holds the opening transaction alone. Assumes nothing.
-use Prim.Native.Nat.{ℕ, zero, suc, _+_, _^_, _≤_, _<_}
-use mathlib.Core.Path.{_≡_, refl, sym, ap, _∙_, subst}
-use mathlib.Core.Logic.{_⊎_, inl, inr, _↔_, _≢_}
+use Prim.Native.Nat.{ℕ, _+_, _^_, _≤_, _<_}
+use mathlib.Core.Path.{_≡_, sym, ap, _∙_, subst}
 use mathlib.Core.List.{List}
 use native.Mathlib.Omega.{arith}
 use native.Mathlib.Decide.{decLt}
 use lib.Dec.{T, ltb, lt→ltb, ltb→lt, not-T, lit<}
-use lib.ListN.{getD, replicate, getD-replicate}
+use lib.ListN.{replicate, getD-replicate}
 use Rattle.search.specs.Choose.{choose}
 use Rattle.search.proofs.Choose.{choose-yes, choose-no}
 use Rattle.sets.specs.Set.{Set, has}
 use Rattle.sets.proofs.Laws.{has-none, has-lt}
 use Rattle.dependencies.specs.History.{Holds}
-use Rattle.store.specs.Store.{Key, View, Store, count, version}
+use Rattle.store.specs.Store.{View, Store, count, version}
 use Rattle.store.proofs.Updated.{Wrote}
 use Rattle.store.proofs.Sound.{IsView, SoundStore}
 use Rattle.store.proofs.Links.{history, held}
 use Rattle.growth.proofs.Ordered.{Ordered, opening-wrote-first}
 use Rattle.state.specs.Keeps.{IsSet}
-use Rattle.views.specs.Rows.{RowAt}
-use Rattle.views.specs.Rules.{StoreAndView}
 use Rattle.views.specs.Viewed.{NewMasks}
 use Rattle.views.proofs.Tests.{has-as}
 use Rattle.views.proofs.Codes.{mask-holds}
@@ -70,14 +67,15 @@ module _ (s : Store) (sound : SoundStore s) (o : Ordered s) where
     whole = λ t k i l j x w v.
         let e : t ≡ 0 = by-opening t k i x w in
         let z : j ≡ 0 = opening-wrote-first s sound o l j (subst (λ (a : ℕ). Wrote s a l j) e v) in
-        subst (λ (a : ℕ). T (has (openingView (s .keys) l) a)) (sym z) (zero-there (s .keys) l (sound .only-keys l j (v .0)))
+        subst (λ (a : ℕ). T (has (openingView (s .keys) l) a)) (sym z) (zero-there (s .keys) l (sound .only-keys l j (v .0)));
   }
 
   pub opening-holds : 0 < s .keys → IsSet 1 (Holds (history s) (held (openingView (s .keys))))
-  opening-holds some t =
-      ( λ x. let b : t < 1 = has-lt 1 1 t (lit< tt) x in
-          subst (Holds (history s) (held (openingView (s .keys)))) (let e : 0 ≡ t = omega arith in e) (0, 0, zero-there (s .keys) 0 some, o .first-by-opening 0 some)
-      , λ (k, i, x, w). subst (λ (a : ℕ). T (has 1 a)) (sym (by-opening t k i x w)) tt )
+  opening-holds some t = (
+    λ x. let b : t < 1 = has-lt 1 1 t (lit< tt) x in
+        subst (Holds (history s) (held (openingView (s .keys)))) (let e : 0 ≡ t = omega arith in e) (0, 0, zero-there (s .keys) 0 some, o .first-by-opening 0 some),
+    λ (k, i, x, w). subst (λ (a : ℕ). T (has 1 a)) (sym (by-opening t k i x w)) tt,
+  )
 
 -- ---- new masks over the opening view
 
@@ -91,14 +89,14 @@ module _ (s : Store) (old u : View) (n : ℕ) (versions keys masks : List ℕ) (
       few = m .arrays .few;
       in-versions = m .arrays .in-versions;
       in-keys = m .arrays .in-keys;
-      in-masks = λ k l. getD-replicate 16 (0 + k) 1 0 (omega arith) ∙ sym (one-there (s .keys) k (omega (arith, m .arrays .number)))
+      in-masks = λ k l. getD-replicate 16 (0 + k) 1 0 (omega arith) ∙ sym (one-there (s .keys) k (omega (arith, m .arrays .number)));
     };
     ordered = m .ordered;
     view = opening-view s (m .arrays .sound) (m .ordered);
     seen-is = opening-holds s (m .arrays .sound) (m .ordered) (omega (arith, m .arrays .number));
     in-fresh = m .in-fresh;
     fits = m .fits;
-    good = m .good
+    good = m .good;
   }
 
   pub opening-grows : (k i : ℕ) → T (has (openingView (s .keys) k) i) → T (has (u k) i)

@@ -1,9 +1,8 @@
 -- Clause 2: the versions that a commit appends, in the store after it. Assumes nothing.
-use Prim.Native.Nat.{ℕ, suc, _+_, _*_, _^_, _≤_, _<_}
-use mathlib.Core.Path.{_≡_, refl, sym, ap, _∙_, subst}
-use mathlib.Core.Bool.{Bool}
+use Prim.Native.Nat.{ℕ, _^_, _≤_, _<_}
+use mathlib.Core.Path.{_≡_, refl, sym, _∙_, subst}
 use mathlib.Core.Logic.{_⊎_, inl, inr, _≢_}
-use mathlib.Core.Option.{Option, some, none}
+use mathlib.Core.Option.{some, none}
 use native.Mathlib.Omega.{arith}
 use native.Mathlib.Decide.{decLt}
 use lib.Dec.{T}
@@ -13,7 +12,7 @@ use Rattle.sets.proofs.Laws.{has-below, below-has, below-word, has-lowest, lowe
 use Rattle.sets.proofs.Algebra.{without-is, without-word}
 use Rattle.store.specs.Store.{Key, View, Store, count, version, nextNumber, Commit}
 use Rattle.store.specs.Update.{writes, update}
-use Rattle.store.specs.Missing.{Place, missing}
+use Rattle.store.specs.Missing.{missing}
 use Rattle.store.specs.Links.{wrote}
 use Rattle.store.proofs.Updated.{Wrote, wrote-update, wrote-new}
 use Rattle.store.proofs.Sound.{SoundStore}
@@ -76,7 +75,7 @@ module _ (s : Store) (u : View) (c : Commit) (sound : SoundStore s) where
   own-found k l w {v} e n before =
       let new : Wrote (update s u c) (nextNumber s) k v = rw e (wrote-new s u c k w) in
       sym (missing-found (update s u c) (wrote (update s u c) (nextNumber s)) (c .viewAfter) k v (rw (key-after s u c) l) (new .0) (eq-is _ _ .1 (new .1)) n before
-        (λ j m t. let q : j ≡ count s k = own-only k j (omega (arith, new .0)) t .1 in absurd (omega arith)))
+      (λ j m t. let q : j ≡ count s k = own-only k j (omega (arith, new .0)) t .1 in absurd (omega arith)))
 
   pub own-nowhere : (n : ℕ) → s .keys ≡ n → ((l : Key) → l < n → OwnMet s u c l)
       → none ≡ missing (update s u c) (wrote (update s u c) (nextNumber s)) (c .viewAfter)

@@ -1,10 +1,10 @@
 -- Tests as the code makes them. Assumes nothing.
 use Prim.Native.Nat.{ℕ}
 use mathlib.Core.Path.{_≡_, refl, sym, ap, _∙_, subst}
-use mathlib.Core.Bool.{Bool, true, false, true≢false, not, _&&_, _||_}
+use mathlib.Core.Bool.{Bool, true, false, true≢false, not}
 use lib.Dec.{T}
 use Rattle.search.specs.Choose.{isSome, when}
-use Rattle.search.proofs.Tests.{T-true, T-false, true-T}
+use Rattle.search.proofs.Tests.{T-true, true-T}
 use Rattle.sets.specs.Set.{has}
 
 -- `if f(..)`, where f answers b

@@ -1,7 +1,7 @@
 -- What the words in the arrays say: sets that have a number in common, and the writer in a head. Assumes nothing.
-use Prim.Native.Nat.{ℕ, _+_, _*_, _/_, _%_, _^_, _≤_, _<_, min}
-use mathlib.Core.Path.{_≡_, refl, sym, ap, _∙_}
-use mathlib.Core.Bool.{Bool, true, false, not, _&&_}
+use Prim.Native.Nat.{ℕ, _+_, _*_, _^_, _≤_, _<_, min}
+use mathlib.Core.Path.{_≡_, refl, ap, _∙_}
+use mathlib.Core.Bool.{_&&_}
 use mathlib.Core.Logic.{_↔_, _≢_}
 use mathlib.Core.List.{List}
 use native.Mathlib.Omega.{arith}
@@ -9,13 +9,13 @@ use lib.Dec.{T, eqb}
 use lib.Bits.{bitAnd, and-le-l}
 use lib.ListN.{getD}
 use borrow.Author.Tests.{eq-eqb, ne-eqb}
-use Rattle.search.proofs.Tests.{same, both, stable, and-is, not-is, eq-is, T?}
+use Rattle.search.proofs.Tests.{same, and-is, not-is, eq-is}
 use Rattle.sets.specs.Set.{Set, has, lowest}
 use Rattle.sets.proofs.Laws.{has-lowest}
-use Rattle.sets.proofs.Digits.{digit, digit-and, at-place}
+use Rattle.sets.proofs.Digits.{digit-and, at-place}
 use Rattle.sets.proofs.Algebra.{empty-is}
-use Rattle.store.specs.Store.{Key, VersionNumber, View, Store, count, version}
-use Rattle.state.specs.Places.{headPlace, readersPlace, packed}
+use Rattle.store.specs.Store.{View, Store, count, version}
+use Rattle.state.specs.Places.{headPlace, readersPlace}
 use Rattle.views.specs.Words.{meets, writerIn}
 use Rattle.views.specs.Rules.{StoreAndView, byWriter, byReader}
 

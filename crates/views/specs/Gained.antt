@@ -3,7 +3,7 @@ use Prim.Native.Nat.{ℕ, _+_, _<_}
 use mathlib.Core.Path.{_≡_}
 use mathlib.Core.List.{List}
 use lib.Dec.{T}
-use lib.ListN.{length, getD}
+use lib.ListN.{getD}
 use Rattle.sets.specs.Set.{Set, has, without}
 use Rattle.store.specs.Store.{Key, CommitNumber}
 use Rattle.state.specs.Places.{headPlace, writersPlace}
@@ -23,10 +23,9 @@ pub record Gains (versions fresh masks : List ℕ) (base n : ℕ) (gain : List �
   pub each : (k : Key) → k < n → IsSet (getD gain k 0) (GainedAt versions fresh masks base k)
   pub whole : IsSet all (λ t. (k : Key) × (k < n) × GainedAt versions fresh masks base k t)
 
--- t wrote a version of a key, and has gained none of it
+-- t wrote a version of key k, and has gained none of it; of some key below n
 abbrev pub LackingAt : List ℕ → List ℕ → Key → CommitNumber → Type 0
 LackingAt keys gain k t = T (has (getD keys (writersPlace k) 0) t) × (¬ T (has (getD gain k 0) t))
 
--- t has gained a version, and lacks one of some key
-abbrev pub HalfGained : List ℕ → List ℕ → ℕ → Set → CommitNumber → Type 0
-HalfGained keys gain n all t = T (has all t) × ((k : Key) × (k < n) × LackingAt keys gain k t)
+abbrev pub LackingBelow : List ℕ → List ℕ → ℕ → CommitNumber → Type 0
+LackingBelow keys gain n t = (k : Key) × (k < n) × LackingAt keys gain k t

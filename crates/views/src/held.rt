@@ -9,7 +9,7 @@ ghost use lib.ListN.{length};
 ghost use Rattle.sets.specs.Set.{has};
 ghost use Rattle.store.specs.Store.{View, Store};
 ghost use Rattle.state.specs.Keeps.{IsSet};
-ghost use Rattle.views.specs.Gained.{WriterAmong, Gains, HalfGained};
+ghost use Rattle.views.specs.Gained.{WriterAmong, Gains, LackingBelow};
 ghost use Rattle.views.specs.Viewed.{ViewedAs, NewMasks};
 
 // The writers of some versions of one key.
@@ -21,14 +21,24 @@ fn writers_of(versions: &[u64], k: usize, set: u64) -> u64
     let mut left = set;
     while left != 0 {
         let v = sets::lowest(left);
-        writers = sets::insert(writers, missing::writer_of(versions[64 * k + v]));
+        writers = sets::insert(
+            writers,
+            missing::writer_of(versions[crate::PER_KEY * k + v]),
+        );
         left = sets::rest(left);
     }
     writers
 }
 
 // The writers of what the masks hold and those at `base` do not: for each key in `gain`, and all of them.
-fn gained(versions: &[u64], fresh: &[u64], masks: &[u64], base: usize, gain: &mut [u64], n: usize) -> u64
+fn gained(
+    versions: &[u64],
+    fresh: &[u64],
+    masks: &[u64],
+    base: usize,
+    gain: &mut [u64],
+    n: usize,
+) -> u64
     requires { ⌜ (n ≤ 16) × (length (now versions) ≡ 2048) × (length (now fresh) ≡ 16) × (base + n ≤ length (now masks)) × (length (now gain) ≡ 16) ⌝ }
     ensures { λ r. ⌜ (length (now (gain .exit)) ≡ 16) × Gains (now (versions .entry)) (now (fresh .entry)) (now (masks .entry)) base n (now (gain .exit)) r ⌝ }
 {
@@ -43,28 +53,36 @@ fn gained(versions: &[u64], fresh: &[u64], masks: &[u64], base: usize, gain: &mu
     all
 }
 
-// Of all the commits that gained those that lack a key that they wrote.
-fn half_held(keys: &[u64], gain: &[u64], all: u64, n: usize) -> u64
+// The commits that wrote a version of a key and are not in the key's gain.
+fn lacking(keys: &[u64], gain: &[u64], n: usize) -> u64
     requires { ⌜ (n ≤ 16) × (length (now keys) ≡ 32) × (length (now gain) ≡ 16) ⌝ }
-    ensures { λ r. ⌜ IsSet r (HalfGained (now (keys .entry)) (now (gain .entry)) n all) ⌝ }
+    ensures { λ r. ⌜ IsSet r (LackingBelow (now (keys .entry)) (now (gain .entry)) n) ⌝ }
 {
-    let mut lacking = 0u64;
+    let mut all = 0u64;
     let mut k: usize = 0;
     while k < n {
-        lacking = sets::union(lacking, sets::without(keys[16 + k], gain[k]));
+        all = sets::union(all, sets::without(keys[crate::WRITERS + k], gain[k]));
         k = k + 1;
     }
-    all & lacking
+    all
 }
 
 // Masks that hold all of the view at `base`.
-fn grown(versions: &[u64], keys: &[u64], fresh: &[u64], masks: &[u64], base: usize, seen: u64, n: usize) -> Viewed
+fn grown(
+    versions: &[u64],
+    keys: &[u64],
+    fresh: &[u64],
+    masks: &[u64],
+    base: usize,
+    seen: u64,
+    n: usize,
+) -> Viewed
     requires { ⌜ (n ≤ 16) × (length (now versions) ≡ 2048) × (length (now keys) ≡ 32) × (length (now fresh) ≡ 16) × (base + n ≤ length (now masks)) ⌝ }
     ensures { λ r. ⌜ ((s : Store) (old u : View) → NewMasks s old u n (now (versions .entry)) (now (keys .entry)) (now (masks .entry)) base seen (now (fresh .entry)) → ((k i : ℕ) → T (has (old k) i) → T (has (u k) i)) → ViewedAs s u r) ⌝ }
 {
     let mut gain = [0u64; 16];
     let all = gained(versions, fresh, masks, base, &mut gain, n);
-    let half = half_held(keys, &gain, all, n);
+    let half = all & lacking(keys, &gain, n);
     let holds = sets::union(seen, all);
     if half == 0 {
         return Viewed::Holds(holds);
@@ -76,11 +94,26 @@ fn grown(versions: &[u64], keys: &[u64], fresh: &[u64], masks: &[u64], base: usi
 }
 
 // Code 11, and the commits of which the masks hold a version: by difference from the client's view at `base`, where the masks hold all of
-// it, and else from the opening view.
-pub fn viewed(versions: &[u64], keys: &[u64], fresh: &[u64], views: &[u64], base: usize, seen: u64, n: usize) -> Viewed
+// it, and else from the opening view. Two common cases are answered at once: all versions that there are, and the client's view itself.
+pub fn viewed(
+    versions: &[u64],
+    keys: &[u64],
+    fresh: &[u64],
+    views: &[u64],
+    base: usize,
+    seen: u64,
+    n: usize,
+) -> Viewed
     requires { ⌜ (1 ≤ n) × (n ≤ 16) × (length (now versions) ≡ 2048) × (length (now keys) ≡ 32) × (length (now fresh) ≡ 16) × (base + n ≤ length (now views)) ⌝ }
     ensures { λ r. ⌜ ((s : Store) (old u : View) → NewMasks s old u n (now (versions .entry)) (now (keys .entry)) (now (views .entry)) base seen (now (fresh .entry)) → ViewedAs s u r) ⌝ }
 {
+    if masks::same(fresh, keys, 0, n) {
+        let nothing = [0u64; 16];
+        return Viewed::Holds(lacking(keys, &nothing, n));
+    }
+    if masks::same(fresh, views, base, n) {
+        return Viewed::Holds(seen);
+    }
     if let state::Found::Nothing = masks::lost(fresh, views, base, n) {
         return grown(versions, keys, fresh, views, base, seen, n);
     }

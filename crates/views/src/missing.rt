@@ -24,7 +24,14 @@ pub fn writer_of(head: u64) -> usize
 }
 
 // The first version by a commit of the set that the view at `base` lacks.
-pub fn least_by_writer(versions: &[u64], keys: &[u64], masks: &[u64], base: usize, set: u64, n: usize) -> state::Found
+pub fn least_by_writer(
+    versions: &[u64],
+    keys: &[u64],
+    masks: &[u64],
+    base: usize,
+    set: u64,
+    n: usize,
+) -> state::Found
     requires { ⌜ (n ≤ 16) × (length (now versions) ≡ 2048) × (length (now keys) ≡ 32) × (base + n ≤ length (now masks)) ⌝ }
     ensures { λ r. ⌜ ((s : Store) (u : View) → StoreAndView s u n (now (versions .entry)) (now (keys .entry)) (now (masks .entry)) base → placeOf r ≡ missing s (byWriter s set) u) ⌝ }
 {
@@ -34,7 +41,7 @@ pub fn least_by_writer(versions: &[u64], keys: &[u64], masks: &[u64], base: usiz
         let mut left = sets::without(keys[k], masks[base + k]);
         while left != 0 {
             let v = sets::lowest(left);
-            if sets::has(set, writer_of(versions[64 * k + v])) {
+            if sets::has(set, writer_of(versions[crate::PER_KEY * k + v])) {
                 found = state::Found::At(state::Key(k), state::VersionNumber(v));
                 break 'search;
             }
@@ -46,7 +53,14 @@ pub fn least_by_writer(versions: &[u64], keys: &[u64], masks: &[u64], base: usiz
 }
 
 // The first version read by a commit of the set that the view at `base` lacks.
-pub fn least_by_reader(versions: &[u64], keys: &[u64], masks: &[u64], base: usize, set: u64, n: usize) -> state::Found
+pub fn least_by_reader(
+    versions: &[u64],
+    keys: &[u64],
+    masks: &[u64],
+    base: usize,
+    set: u64,
+    n: usize,
+) -> state::Found
     requires { ⌜ (n ≤ 16) × (length (now versions) ≡ 2048) × (length (now keys) ≡ 32) × (base + n ≤ length (now masks)) ⌝ }
     ensures { λ r. ⌜ ((s : Store) (u : View) → StoreAndView s u n (now (versions .entry)) (now (keys .entry)) (now (masks .entry)) base → placeOf r ≡ missing s (byReader s set) u) ⌝ }
 {
@@ -56,7 +70,7 @@ pub fn least_by_reader(versions: &[u64], keys: &[u64], masks: &[u64], base: usiz
         let mut left = sets::without(keys[k], masks[base + k]);
         while left != 0 {
             let v = sets::lowest(left);
-            if set & versions[1024 + (64 * k + v)] != 0 {
+            if set & versions[crate::READERS + (crate::PER_KEY * k + v)] != 0 {
                 found = state::Found::At(state::Key(k), state::VersionNumber(v));
                 break 'search;
             }

@@ -1,90 +1,66 @@
-use lib.ListN.{length-set}
-use borrow.Author.Needs.{needs}
-use Prim.Native.Nat.{ℕ, _+_, _-_, _≤_, _<_}
-use mathlib.Core.Path.{_≡_, refl, sym, ap, _∙_}
+-- `views::held::gained` meets its contract. The loop's invariant: the gains of the keys passed are in the array, and in the set. Assumes nothing.
+use Prim.Native.Nat.{_-_, _≤_}
+use mathlib.Core.Path.{_≡_}
 use native.Mathlib.Omega.{arith}
-use lib.Dec.{T}
-use lib.ListN.{length, getD}
-use borrow.Author.Count.{below-more}
-use Rattle.views.specs.Gained.{GainedAt, Gains}
+use lib.ListN.{length-set, length}
+use borrow.Author.Needs.{needs}
+use Rattle.views.specs.Gained.{Gains}
 use Rattle.views.proofs.Gathered.{gains-none, gains-more}
 use Rattle.views.proofs.held.gained.Statement.{statement}
 use Rattle.views.proofs.held.gained.Tie as tie
-use Rattle.views.proofs.held.gained.Reads as reads
-use Rattle.views.proofs.held.gained.Lts as lts
-use Rattle.sets.proofs.union.Reads as union-reads
-use Rattle.sets.proofs.without.Reads as without-reads
-use Rattle.views.proofs.held.writers_of.Reads as writers-of-reads
 
 abbrev Inv-loop : tie.InvT-loop
 Inv-loop versions fresh masks base gain₀ n all₀ k₀ gain all k =
     (k ≤ n) × (length gain ≡ 16) × Gains versions fresh masks base k gain all
 
 abbrev μ-loop : tie.MeasureT-loop
-μ-loop versions fresh masks base gain₀ n all₀ k₀ gain all k =
-    n - k
+μ-loop versions fresh masks base gain₀ n all₀ k₀ gain all k = n - k
 
--- src/held.rt:37:5
 loop-holds : tie.Need-loop-holds Inv-loop μ-loop
 loop-holds c = (omega arith, omega arith, gains-none _ _ _ _ _)
 
--- src/held.rt:38:61
 mul-without : tie.Need-mul-without Inv-loop μ-loop
 mul-without c = search needs
 
--- src/held.rt:38:61
 shared-slice-read-without : tie.Need-shared-slice-read-without Inv-loop μ-loop
 shared-slice-read-without c = search needs
 
--- src/held.rt:38:77
 add-without : tie.Need-add-without Inv-loop μ-loop
 add-without c = search needs
 
--- src/held.rt:38:71
 mul-without-2 : tie.Need-mul-without-2 Inv-loop μ-loop
 mul-without-2 c = search needs
 
--- src/held.rt:38:71
 shared-slice-read-without-2 : tie.Need-shared-slice-read-without-2 Inv-loop μ-loop
 shared-slice-read-without-2 c = search needs
 
--- src/held.rt:38:47
 without-requires : tie.Need-without-requires Inv-loop μ-loop
 without-requires c κs = search needs
 
--- src/held.rt:38:13
 writers-of-requires : tie.Need-writers-of-requires Inv-loop μ-loop
 writers-of-requires c κs = search needs
 
--- src/held.rt:39:9
 mul-gain : tie.Need-mul-gain Inv-loop μ-loop
 mul-gain c = search needs
 
--- src/held.rt:39:9
 slice-write-gain : tie.Need-slice-write-gain Inv-loop μ-loop
 slice-write-gain c = search needs
 
--- src/held.rt:40:9
 union-requires : tie.Need-union-requires Inv-loop μ-loop
 union-requires c κs = search needs
 
--- src/held.rt:41:13
 add-k : tie.Need-add-k Inv-loop μ-loop
 add-k c = search needs
 
--- src/held.rt:37:5
 loop-less : tie.Need-loop-less Inv-loop μ-loop
 loop-less c = search needs
 
--- src/held.rt:37:5
 loop-again : tie.Need-loop-again Inv-loop μ-loop
 loop-again c = (omega arith, simp length-set (c .before .before .before .before .before .before .loop .inv .1), gains-more _ _ _ _ _ _ _ (c .before .before .before .before .before .before .loop .inv .2) (omega arith) (c .before .before .without .ensures) (c .before .writers-of .ensures) (c .union .ensures))
 
--- src/held.rt:31:1
 same-length : tie.Need-same-length Inv-loop μ-loop
 same-length c = search needs
 
--- src/held.rt:31:1
 returns : tie.Need-returns Inv-loop μ-loop
 returns c = let e : c .before .loop .k ≡ c .before .before .before .before .before .before .args .n = omega arith in (c .before .loop .inv .1, rw e at (c .before .loop .inv .2))
 

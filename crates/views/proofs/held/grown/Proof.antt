@@ -1,66 +1,50 @@
-use Rattle.views.proofs.Grown.{with-fresh, grown-holds, half-same, none-half}
-use Rattle.state.specs.Answers.{placeOf}
+-- `views::held::grown` meets its contract. Assumes nothing.
 use mathlib.Core.Path.{sym, ap, _∙_}
 use borrow.Author.Needs.{needs}
+use Rattle.state.specs.Answers.{placeOf}
+use Rattle.views.proofs.Grown.{with-fresh, grown-holds, half-same, none-half}
 use Rattle.views.proofs.held.grown.Statement.{statement}
 use Rattle.views.proofs.held.grown.Tie as tie
-use Rattle.views.proofs.held.grown.Reads as reads
-use Rattle.views.proofs.held.grown.Lts as lts
-use Rattle.sets.proofs.union.Reads as union-reads
-use Rattle.views.proofs.held.gained.Reads as gained-reads
-use Rattle.views.proofs.held.half_held.Reads as half-held-reads
-use Rattle.views.proofs.missing.least_by_writer.Reads as least-by-writer-reads
 
--- src/held.rt:66:52
 slice-aggregate-gained : tie.Need-slice-aggregate-gained
 slice-aggregate-gained c = search needs
 
--- src/held.rt:66:9
 gained-requires : tie.Need-gained-requires
 gained-requires c κs = search needs
 
--- src/held.rt:67:32
-slice-aggregate-half-held : tie.Need-slice-aggregate-half-held
-slice-aggregate-half-held c = search needs
+slice-aggregate-lacking : tie.Need-slice-aggregate-lacking
+slice-aggregate-lacking c = search needs
 
--- src/held.rt:67:9
-half-held-requires : tie.Need-half-held-requires
-half-held-requires c κs = search needs
+lacking-requires : tie.Need-lacking-requires
+lacking-requires c κs = search needs
 
--- src/held.rt:68:9
 union-requires : tie.Need-union-requires
 union-requires c κs = search needs
 
--- src/held.rt:70:9
 returns : tie.Need-returns
-returns c = λ s old u m grows.
-    ( none-half s old u _ _ _ _ _ _ _ m grows _ _ (c .before .before .half-held .result) (c .before .before .before .before .before .gained .ensures .1) (c .before .before .half-held .ensures) (c .if1 .taken)
-    , grown-holds s old u _ _ _ _ _ _ _ m grows _ _ (c .before .before .half-held .result) (c .before .before .before .before .before .gained .ensures .1) (c .before .before .half-held .ensures) (c .before .union .ensures) )
+returns c = λ s old u m grows. (
+  none-half s old u _ _ _ _ _ _ _ m grows _ _ (c .before .before .before .before .before .gained .ensures .1) (c .before .before .lacking .result) (c .before .before .lacking .ensures) (c .if1 .taken),
+  grown-holds s old u _ _ _ _ _ _ _ m grows _ _ (c .before .before .before .before .before .gained .ensures .1) (c .before .before .lacking .result) (c .before .before .lacking .ensures) (c .before .union .ensures),
+)
 
--- src/held.rt:72:11
 least-by-writer-requires : tie.Need-least-by-writer-requires
 least-by-writer-requires c κs = search needs
 
--- src/held.rt:73:26
 enum-known-k : tie.Need-enum-known-k
 enum-known-k c = search needs
 
--- src/held.rt:74:34
 enum-told : tie.Need-enum-told
 enum-told c = search needs
 
--- src/held.rt:61:1
 returns-2 : tie.Need-returns-2
 returns-2 c = λ s old u m grows.
-    half-same s old u _ _ _ _ _ _ _ m grows _ _ (c .before .before .before .before .before .before .half-held .result) (c .before .before .before .before .before .before .before .before .before .gained .ensures .1) (c .before .before .before .before .before .before .half-held .ensures)
-    ∙ sym (c .before .before .before .least-by-writer .ensures s u (with-fresh s old u _ _ _ _ _ _ _ m)) ∙ ap placeOf (c .before .k .given .1)
+    half-same s old u _ _ _ _ _ _ _ m grows _ _ (c .before .before .before .before .before .before .before .before .before .gained .ensures .1) (c .before .before .before .before .before .before .lacking .result) (c .before .before .before .before .before .before .lacking .ensures) ∙ sym (c .before .before .before .least-by-writer .ensures s u (with-fresh s old u _ _ _ _ _ _ _ m)) ∙ ap placeOf (c .before .k .given .1)
 
--- src/held.rt:61:1
 returns-3 : tie.Need-returns-3
-returns-3 c = λ s old u m grows.
-    ( half-same s old u _ _ _ _ _ _ _ m grows _ _ (c .before .before .before .before .before .half-held .result) (c .before .before .before .before .before .before .before .before .gained .ensures .1) (c .before .before .before .before .before .half-held .ensures)
-      ∙ sym (c .before .before .least-by-writer .ensures s u (with-fresh s old u _ _ _ _ _ _ _ m)) ∙ ap placeOf (c .enum-told .given .1)
-    , grown-holds s old u _ _ _ _ _ _ _ m grows _ _ (c .before .before .before .before .before .half-held .result) (c .before .before .before .before .before .before .before .before .gained .ensures .1) (c .before .before .before .before .before .half-held .ensures) (c .before .before .before .before .union .ensures) )
+returns-3 c = λ s old u m grows. (
+  half-same s old u _ _ _ _ _ _ _ m grows _ _ (c .before .before .before .before .before .before .before .before .gained .ensures .1) (c .before .before .before .before .before .lacking .result) (c .before .before .before .before .before .lacking .ensures) ∙ sym (c .before .before .least-by-writer .ensures s u (with-fresh s old u _ _ _ _ _ _ _ m)) ∙ ap placeOf (c .enum-told .given .1),
+  grown-holds s old u _ _ _ _ _ _ _ m grows _ _ (c .before .before .before .before .before .before .before .before .gained .ensures .1) (c .before .before .before .before .before .lacking .result) (c .before .before .before .before .before .lacking .ensures) (c .before .before .before .before .union .ensures),
+)
 
 pub grown-spec : {M : Type 1} → statement M
 grown-spec =
@@ -68,8 +52,8 @@ grown-spec =
     (tie.spec
     slice-aggregate-gained
     gained-requires
-    slice-aggregate-half-held
-    half-held-requires
+    slice-aggregate-lacking
+    lacking-requires
     union-requires
     returns
     least-by-writer-requires

@@ -1,8 +1,9 @@
-use borrow.Author.Needs.{needs}
+-- `views::masks::bad_mask` meets its contract. The loop's invariant: no key passed has a bad mask. Assumes nothing.
 use Prim.Native.Nat.{ℕ, _-_, _≤_, _<_}
 use mathlib.Core.Path.{_≡_, sym, _∙_}
 use native.Mathlib.Omega.{arith}
 use lib.Dec.{T}
+use borrow.Author.Needs.{needs}
 use borrow.Author.Count.{below-more}
 use Rattle.store.specs.Store.{View, Store}
 use Rattle.store.specs.Refusal.{badMaskAt}
@@ -11,10 +12,6 @@ use Rattle.views.proofs.Tests.{not-taken, not-left}
 use Rattle.views.proofs.Codes.{lacks-first, holds-other, good-mask, bad-at, bad-nowhere}
 use Rattle.views.proofs.masks.bad_mask.Statement.{statement}
 use Rattle.views.proofs.masks.bad_mask.Tie as tie
-use Rattle.views.proofs.masks.bad_mask.Reads as reads
-use Rattle.views.proofs.masks.bad_mask.Lts as lts
-use Rattle.sets.proofs.has.Reads as has-reads
-use Rattle.sets.proofs.without.Reads as without-reads
 
 abbrev Inv-loop : tie.InvT-loop
 Inv-loop fresh keys n k₀ k =
@@ -23,61 +20,51 @@ Inv-loop fresh keys n k₀ k =
 abbrev μ-loop : tie.MeasureT-loop
 μ-loop fresh keys n k₀ k = n - k
 
--- src/masks.rt:19:5
 loop-holds : tie.Need-loop-holds Inv-loop μ-loop
 loop-holds c = search needs
 
--- src/masks.rt:20:20
 mul-mask : tie.Need-mul-mask Inv-loop μ-loop
 mul-mask c = search needs
 
--- src/masks.rt:20:20
 shared-slice-read-mask : tie.Need-shared-slice-read-mask Inv-loop μ-loop
 shared-slice-read-mask c = search needs
 
--- src/masks.rt:21:13
 has-requires : tie.Need-has-requires Inv-loop μ-loop
 has-requires c κs = search needs
 
--- src/masks.rt:22:13
 returns : tie.Need-returns Inv-loop μ-loop
 returns c = λ s u e kk km.
     bad-at s u _ e _ (omega arith) (lacks-first s u _ (km .masks _ (omega arith)) (not-taken (c .if1 .taken) (c .before .has .ensures)))
     (c .before .before .before .before .loop .inv .1 s u e kk km)
 
--- src/masks.rt:24:32
 mul-without : tie.Need-mul-without Inv-loop μ-loop
 mul-without c = search needs
 
--- src/masks.rt:24:32
 shared-slice-read-without : tie.Need-shared-slice-read-without Inv-loop μ-loop
 shared-slice-read-without c = search needs
 
--- src/masks.rt:24:12
 without-requires : tie.Need-without-requires Inv-loop μ-loop
 without-requires c κs = search needs
 
--- src/masks.rt:25:13
 returns-2 : tie.Need-returns-2 Inv-loop μ-loop
 returns-2 c = λ s u e kk km.
     bad-at s u _ e _ (omega arith) (holds-other s u _ (km .masks _ (omega arith)) (kk .full _ (omega arith)) (c .before .before .before .before .before .before .before .before .before .shared-slice-known .given _ .fits) (λ z. c .if2 .taken (c .before .without .ensures ∙ z)))
     (c .before .before .before .before .before .before .before .loop .inv .1 s u e kk km)
 
--- src/masks.rt:27:13
 add-k : tie.Need-add-k Inv-loop μ-loop
 add-k c = search needs
 
--- src/masks.rt:19:5
 loop-less : tie.Need-loop-less Inv-loop μ-loop
 loop-less c = search needs
 
--- src/masks.rt:19:5
 loop-again : tie.Need-loop-again Inv-loop μ-loop
-loop-again c = (omega arith, λ s u e kk km.
-    below-more _ _ (c .before .before .before .before .before .before .before .loop .inv .1 s u e kk km)
-    (good-mask s u _ (km .masks _ (omega arith)) (kk .full _ (omega arith)) (not-left (c .before .before .before .if1 .left) (c .before .before .before .before .has .ensures)) (sym (c .before .without .ensures) ∙ c .if2 .left)))
+loop-again c = (
+  omega arith,
+  λ s u e kk km.
+      below-more _ _ (c .before .before .before .before .before .before .before .loop .inv .1 s u e kk km)
+      (good-mask s u _ (km .masks _ (omega arith)) (kk .full _ (omega arith)) (not-left (c .before .before .before .if1 .left) (c .before .before .before .before .has .ensures)) (sym (c .before .without .ensures) ∙ c .if2 .left)),
+)
 
--- src/masks.rt:14:1
 returns-3 : tie.Need-returns-3 Inv-loop μ-loop
 returns-3 c = λ s u e kk km. bad-nowhere s u _ e (λ l h. c .before .loop .inv .1 s u e kk km l (omega arith))
 

@@ -1,10 +1,8 @@
-use Rattle.views.proofs.Looking.{lost-wanted}
-use borrow.Author.Needs.{needs}
-use Prim.Native.Nat.{ℕ, _+_, _-_, _≤_, _<_}
-use mathlib.Core.Path.{_≡_, refl, sym, ap, _∙_}
+-- `views::masks::lost` meets its contract. The loop's invariant: at the keys passed nothing of the view is lacking. Assumes nothing.
+use Prim.Native.Nat.{ℕ, _-_, _≤_, _<_}
+use mathlib.Core.Path.{_≡_}
 use native.Mathlib.Omega.{arith}
-use lib.Dec.{T}
-use lib.ListN.{length, getD}
+use borrow.Author.Needs.{needs}
 use borrow.Author.Count.{below-more}
 use Rattle.store.specs.Store.{View, Store}
 use Rattle.store.specs.Refusal.{allOf}
@@ -12,13 +10,9 @@ use Rattle.store.proofs.Sound.{IsView}
 use Rattle.store.proofs.Missing.{MetAt}
 use Rattle.state.specs.Keeps.{KeepsMasks}
 use Rattle.views.specs.Rows.{RowAt}
-use Rattle.views.proofs.Looking.{looking-lost, looking-done, looking-found, missing-nowhere}
+use Rattle.views.proofs.Looking.{lost-wanted, looking-lost, looking-done, looking-found, missing-nowhere}
 use Rattle.views.proofs.masks.lost.Statement.{statement}
 use Rattle.views.proofs.masks.lost.Tie as tie
-use Rattle.views.proofs.masks.lost.Reads as reads
-use Rattle.views.proofs.masks.lost.Lts as lts
-use Rattle.sets.proofs.lowest.Reads as lowest-reads
-use Rattle.sets.proofs.without.Reads as without-reads
 
 abbrev Inv-loop : tie.InvT-loop
 Inv-loop fresh views base n k₀ k =
@@ -27,39 +21,30 @@ Inv-loop fresh views base n k₀ k =
 abbrev μ-loop : tie.MeasureT-loop
 μ-loop fresh views base n k₀ k = n - k
 
--- src/masks.rt:43:5
 loop-holds : tie.Need-loop-holds Inv-loop μ-loop
 loop-holds c = (omega arith, λ s old u e v ro km l h. absurd (omega arith))
 
--- src/masks.rt:44:40
 add-without : tie.Need-add-without Inv-loop μ-loop
 add-without c = search needs
 
--- src/masks.rt:44:34
 mul-without : tie.Need-mul-without Inv-loop μ-loop
 mul-without c = search needs
 
--- src/masks.rt:44:34
 shared-slice-read-without : tie.Need-shared-slice-read-without Inv-loop μ-loop
 shared-slice-read-without c = search needs
 
--- src/masks.rt:44:51
 mul-without-2 : tie.Need-mul-without-2 Inv-loop μ-loop
 mul-without-2 c = search needs
 
--- src/masks.rt:44:51
 shared-slice-read-without-2 : tie.Need-shared-slice-read-without-2 Inv-loop μ-loop
 shared-slice-read-without-2 c = search needs
 
--- src/masks.rt:44:13
 without-requires : tie.Need-without-requires Inv-loop μ-loop
 without-requires c κs = search needs
 
--- src/masks.rt:46:73
 lowest-requires : tie.Need-lowest-requires Inv-loop μ-loop
 lowest-requires c κs = search needs
 
--- src/masks.rt:46:13
 returns : tie.Need-returns Inv-loop μ-loop
 returns c = λ s old u e v ro km.
     let k = c .before .before .before .before .before .before .loop .k in
@@ -67,21 +52,20 @@ returns c = λ s old u e v ro km.
     looking-found s (allOf old) u k (looking-lost s u k old v word (ro _ (omega arith)) (km .masks _ (omega arith)) (c .before .before .without .ensures)) (c .before .if1 .taken) (c .lowest .ensures .0)
     (λ b. lost-wanted s u k old _ word (ro _ (omega arith)) (c .before .before .without .ensures) (c .before .if1 .taken) (c .lowest .ensures .0)) (omega arith) (c .before .before .before .before .before .before .loop .inv .1 s old u e v ro km)
 
--- src/masks.rt:48:13
 add-k : tie.Need-add-k Inv-loop μ-loop
 add-k c = search needs
 
--- src/masks.rt:43:5
 loop-less : tie.Need-loop-less Inv-loop μ-loop
 loop-less c = search needs
 
--- src/masks.rt:43:5
 loop-again : tie.Need-loop-again Inv-loop μ-loop
-loop-again c = (omega arith, λ s old u e v ro km.
-    below-more _ _ (c .before .before .before .before .before .loop .inv .1 s old u e v ro km)
-    (looking-done s (allOf old) u _ (looking-lost s u _ old v (c .before .before .before .before .before .before .shared-slice-known2 .given _ .fits) (ro _ (omega arith)) (km .masks _ (omega arith)) (c .before .without .ensures)) (c .if1 .left)))
+loop-again c = (
+  omega arith,
+  λ s old u e v ro km.
+      below-more _ _ (c .before .before .before .before .before .loop .inv .1 s old u e v ro km)
+      (looking-done s (allOf old) u _ (looking-lost s u _ old v (c .before .before .before .before .before .before .shared-slice-known2 .given _ .fits) (ro _ (omega arith)) (km .masks _ (omega arith)) (c .before .without .ensures)) (c .if1 .left)),
+)
 
--- src/masks.rt:38:1
 returns-2 : tie.Need-returns-2 Inv-loop μ-loop
 returns-2 c = λ s old u e v ro km. missing-nowhere s (allOf old) u _ e (λ l h. c .before .loop .inv .1 s old u e v ro km l (omega arith))
 

@@ -1,14 +1,12 @@
-use borrow.Author.Needs.{needs}
+-- `views::masks::same` meets its contract. The loop's invariant: the masks are the same at the keys passed. Assumes nothing.
 use Prim.Native.Nat.{ℕ, _+_, _-_, _≤_, _<_}
-use mathlib.Core.Path.{_≡_, refl, sym, ap, _∙_}
+use mathlib.Core.Path.{_≡_}
 use native.Mathlib.Omega.{arith}
-use lib.Dec.{T}
-use lib.ListN.{length, getD}
+use lib.ListN.{getD}
+use borrow.Author.Needs.{needs}
 use borrow.Author.Count.{below-more}
 use Rattle.views.proofs.masks.same.Statement.{statement}
 use Rattle.views.proofs.masks.same.Tie as tie
-use Rattle.views.proofs.masks.same.Reads as reads
-use Rattle.views.proofs.masks.same.Lts as lts
 
 abbrev Inv-loop : tie.InvT-loop
 Inv-loop fresh masks base n k₀ k =
@@ -17,47 +15,36 @@ Inv-loop fresh masks base n k₀ k =
 abbrev μ-loop : tie.MeasureT-loop
 μ-loop fresh masks base n k₀ k = n - k
 
--- src/masks.rt:88:5
 loop-holds : tie.Need-loop-holds Inv-loop μ-loop
 loop-holds c = search needs
 
--- src/masks.rt:89:12
 mul-if1 : tie.Need-mul-if1 Inv-loop μ-loop
 mul-if1 c = search needs
 
--- src/masks.rt:89:12
 shared-slice-read-if1 : tie.Need-shared-slice-read-if1 Inv-loop μ-loop
 shared-slice-read-if1 c = search needs
 
--- src/masks.rt:89:30
 add-if1 : tie.Need-add-if1 Inv-loop μ-loop
 add-if1 c = search needs
 
--- src/masks.rt:89:24
 mul-if1-2 : tie.Need-mul-if1-2 Inv-loop μ-loop
 mul-if1-2 c = search needs
 
--- src/masks.rt:89:24
 shared-slice-read-if1-2 : tie.Need-shared-slice-read-if1-2 Inv-loop μ-loop
 shared-slice-read-if1-2 c = search needs
 
--- src/masks.rt:90:13
 returns : tie.Need-returns Inv-loop μ-loop
 returns c = (λ t. absurd t, λ h. c .if1 .taken (h _ (omega arith)))
 
--- src/masks.rt:92:13
 add-k : tie.Need-add-k Inv-loop μ-loop
 add-k c = search needs
 
--- src/masks.rt:88:5
 loop-less : tie.Need-loop-less Inv-loop μ-loop
 loop-less c = search needs
 
--- src/masks.rt:88:5
 loop-again : tie.Need-loop-again Inv-loop μ-loop
 loop-again c = (omega arith, below-more _ _ (c .before .before .before .before .loop .inv .1) (c .if1 .left))
 
--- src/masks.rt:83:1
 returns-2 : tie.Need-returns-2 Inv-loop μ-loop
 returns-2 c = (λ t k l. c .before .loop .inv .1 k (omega arith), λ h. tt)
 

@@ -1,40 +1,30 @@
-use Rattle.views.proofs.Codes.{strays-same, strays-read, strays-unread}
+-- `views::masks::strays` meets its contract. Assumes nothing.
 use borrow.Author.Needs.{needs}
+use Rattle.views.proofs.Codes.{strays-same, strays-read, strays-unread}
 use Rattle.views.proofs.masks.strays.Statement.{statement}
 use Rattle.views.proofs.masks.strays.Tie as tie
-use Rattle.views.proofs.masks.strays.Reads as reads
-use Rattle.views.proofs.masks.strays.Lts as lts
-use Rattle.sets.proofs.has.Reads as has-reads
 
--- src/masks.rt:59:9
 returns : tie.Need-returns
 returns c = strays-same _ _ _ _ (c .if1 .taken)
 
--- src/masks.rt:61:25
 mul-has : tie.Need-mul-has
 mul-has c = search needs
 
--- src/masks.rt:61:8
 has-requires : tie.Need-has-requires
 has-requires c κs = search needs
 
--- src/masks.rt:62:9
 returns-2 : tie.Need-returns-2
 returns-2 c = strays-read _ _ _ _ (c .if2 .taken) (c .before .has .ensures)
 
--- src/masks.rt:64:23
 mul-has-2 : tie.Need-mul-has-2
 mul-has-2 c = search needs
 
--- src/masks.rt:64:23
 add-has : tie.Need-add-has
 add-has c = search needs
 
--- src/masks.rt:64:6
 has-requires-2 : tie.Need-has-requires-2
 has-requires-2 c κs = search needs
 
--- src/masks.rt:54:1
 returns-3 : tie.Need-returns-3
 returns-3 c = strays-unread _ _ _ _ (c .before .before .before .if1 .left) (c .before .if2 .left) (c .before .before .has .ensures) (c .has2 .ensures)
 

@@ -1,11 +1,10 @@
-use borrow.Author.Needs.{needs}
-use Prim.Native.Nat.{ℕ, _+_, _-_, _≤_, _<_}
-use mathlib.Core.Path.{_≡_, refl, sym, ap, _∙_}
-use native.Mathlib.Omega.{arith}
-use lib.Dec.{T}
-use lib.ListN.{length, getD}
-use borrow.Author.Count.{below-more}
+-- `views::missing::least_absent` meets its contract. The loop's invariant: nothing is missing at the keys passed. Assumes nothing.
+use Prim.Native.Nat.{ℕ, _-_, _≤_, _<_}
+use mathlib.Core.Path.{_≡_}
 use mathlib.Core.Logic.{⊎-elim}
+use native.Mathlib.Omega.{arith}
+use borrow.Author.Needs.{needs}
+use borrow.Author.Count.{below-more}
 use Rattle.store.specs.Store.{View, Store}
 use Rattle.store.proofs.Missing.{MetAt}
 use Rattle.state.specs.Keeps.{KeepsKeys}
@@ -15,87 +14,68 @@ use Rattle.views.proofs.Tests.{taken, left as not-so}
 use Rattle.views.proofs.Looking.{looking-all, looking-done, looking-found, missing-nowhere}
 use Rattle.views.proofs.missing.least_absent.Statement.{statement}
 use Rattle.views.proofs.missing.least_absent.Tie as tie
-use Rattle.views.proofs.missing.least_absent.Reads as reads
-use Rattle.views.proofs.missing.least_absent.Lts as lts
-use Rattle.sets.proofs.has.Reads as has-reads
-use Rattle.sets.proofs.lowest.Reads as lowest-reads
-use Rattle.sets.proofs.without.Reads as without-reads
 
 abbrev Inv-loop : tie.InvT-loop
 Inv-loop keys masks base ranks n k₀ k =
     (k ≤ n) × ((s : Store) (u : View) → s .keys ≡ n → KeepsKeys s keys → RowAt n masks base u → (l : ℕ) → l < k → MetAt s (ofWritten ranks) u l)
 
 abbrev μ-loop : tie.MeasureT-loop
-μ-loop keys masks base ranks n k₀ k =
-    n - k
+μ-loop keys masks base ranks n k₀ k = n - k
 
--- src/missing.rt:76:5
 loop-holds : tie.Need-loop-holds Inv-loop μ-loop
 loop-holds c = (omega arith, λ s u e kk ro l b. absurd (omega arith))
 
--- src/missing.rt:77:29
 mul-has : tie.Need-mul-has Inv-loop μ-loop
 mul-has c = search needs
 
--- src/missing.rt:77:29
 add-has : tie.Need-add-has Inv-loop μ-loop
 add-has c = search needs
 
--- src/missing.rt:77:12
 has-requires : tie.Need-has-requires Inv-loop μ-loop
 has-requires c κs = search needs
 
--- src/missing.rt:78:38
 mul-without : tie.Need-mul-without Inv-loop μ-loop
 mul-without c = search needs
 
--- src/missing.rt:78:38
 shared-slice-read-without : tie.Need-shared-slice-read-without Inv-loop μ-loop
 shared-slice-read-without c = search needs
 
--- src/missing.rt:78:53
 add-without : tie.Need-add-without Inv-loop μ-loop
 add-without c = search needs
 
--- src/missing.rt:78:47
 mul-without-2 : tie.Need-mul-without-2 Inv-loop μ-loop
 mul-without-2 c = search needs
 
--- src/missing.rt:78:47
 shared-slice-read-without-2 : tie.Need-shared-slice-read-without-2 Inv-loop μ-loop
 shared-slice-read-without-2 c = search needs
 
--- src/missing.rt:78:17
 without-requires : tie.Need-without-requires Inv-loop μ-loop
 without-requires c κs = search needs
 
--- src/missing.rt:80:77
 lowest-requires : tie.Need-lowest-requires Inv-loop μ-loop
 lowest-requires c κs = search needs
 
--- src/missing.rt:80:17
 returns : tie.Need-returns Inv-loop μ-loop
 returns c = λ s u e kk ro.
     looking-found s _ u _ (looking-all s (ofWritten (c .before .before .before .before .before .before .before .before .before .before .before .args .ranks)) u _ (c .before .before .before .before .before .before .before .before .before .before .shared-slice-known .given _ .fits) (kk .full _ (omega arith)) (ro _ (omega arith)) (c .before .before .without .ensures))
     (c .before .if2 .taken) (c .lowest .ensures .0) (λ b. taken (c .before .before .before .before .before .if1 .taken) (c .before .before .before .before .before .before .has .ensures)) (omega arith) (c .before .before .before .before .before .before .before .before .loop .inv .1 s u e kk ro)
 
--- src/missing.rt:83:13
 add-k : tie.Need-add-k Inv-loop μ-loop
 add-k c = search needs
 
--- src/missing.rt:76:5
 loop-less : tie.Need-loop-less Inv-loop μ-loop
 loop-less c = search needs
 
--- src/missing.rt:76:5
 loop-again : tie.Need-loop-again Inv-loop μ-loop
-loop-again c = (omega arith, λ s u e kk ro.
-    below-more _ _ (c .before .before .before .loop .inv .1 s u e kk ro) (⊎-elim
-    (λ w. looking-done s _ u _ (looking-all s (ofWritten (c .before .before .before .before .before .before .args .ranks)) u _ (c .before .before .before .before .before .shared-slice-known .given _ .fits) (kk .full _ (omega arith)) (ro _ (omega arith)) (w .3 .ensures)) (w .4 .left))
-    (λ w i b t. absurd (not-so (w .left) (c .before .has .ensures) t))
-    (c .if1 .came)))
+loop-again c = (
+  omega arith,
+  λ s u e kk ro.
+      below-more _ _ (c .before .before .before .loop .inv .1 s u e kk ro) (⊎-elim
+      (λ w. looking-done s _ u _ (looking-all s (ofWritten (c .before .before .before .before .before .before .args .ranks)) u _ (c .before .before .before .before .before .shared-slice-known .given _ .fits) (kk .full _ (omega arith)) (ro _ (omega arith)) (w .3 .ensures)) (w .4 .left))
+      (λ w i b t. absurd (not-so (w .left) (c .before .has .ensures) t))
+      (c .if1 .came)),
+)
 
--- src/missing.rt:71:1
 returns-2 : tie.Need-returns-2 Inv-loop μ-loop
 returns-2 c = λ s u e kk ro. missing-nowhere s _ u _ e (λ l b. c .before .loop .inv .1 s u e kk ro l (omega arith))
 

@@ -1,31 +1,22 @@
-use Rattle.views.proofs.Own.{some-free, least-free}
+-- `views::missing::next_version` meets its contract. Assumes nothing.
 use native.Mathlib.Omega.{arith}
 use borrow.Author.Needs.{needs}
+use Rattle.views.proofs.Own.{some-free, least-free}
 use Rattle.views.proofs.missing.next_version.Statement.{statement}
 use Rattle.views.proofs.missing.next_version.Tie as tie
-use Rattle.views.proofs.missing.next_version.Reads as reads
-use Rattle.views.proofs.missing.next_version.Lts as lts
-use Rattle.sets.proofs.below.Reads as below-reads
-use Rattle.sets.proofs.lowest.Reads as lowest-reads
-use Rattle.sets.proofs.without.Reads as without-reads
 
--- src/missing.rt:92:30
 below-requires : tie.Need-below-requires
 below-requires c κs = search needs
 
--- src/missing.rt:92:9
 without-requires : tie.Need-without-requires
 without-requires c κs = search needs
 
--- src/missing.rt:94:9
 returns : tie.Need-returns
 returns c = (omega arith, λ n l q. absurd (some-free (c .before .before .below .ensures) (c .before .without .ensures) n l q (c .if1 .taken)))
 
--- src/missing.rt:96:5
 lowest-requires : tie.Need-lowest-requires
 lowest-requires c κs = search needs
 
--- src/missing.rt:89:1
 returns-2 : tie.Need-returns-2
 returns-2 c = (c .lowest .ensures .1, λ n l q. least-free (c .before .before .before .below .ensures) (c .before .before .without .ensures) n l q (c .lowest .ensures .0))
 

