@@ -1,6 +1,6 @@
 -- What the judge answers of a shift is what the spec answers: one lemma for each answer. Assumes nothing.
-use Prim.Native.Nat.{ℕ, _+_, _*_, _≤_, _<_}
-use mathlib.Core.Path.{_≡_, refl, sym, ap, _∙_}
+use Prim.Native.Nat.{ℕ, _+_, _*_, _<_}
+use mathlib.Core.Path.{_≡_, sym, ap, _∙_}
 use mathlib.Core.Option.{some, none}
 use mathlib.Core.List.{List}
 use native.Mathlib.Omega.{arith}
@@ -14,11 +14,10 @@ use Rattle.store.specs.Limits.{maxKeys, maxClients}
 use Rattle.store.specs.Store.{Client, View, Store, Configuration, shift}
 use Rattle.store.specs.Missing.{Place, missing}
 use Rattle.store.specs.Refusal.{Refusal, badMask, halfHeld, allOf, lost, refuseKey, refusePlace, refusesEvent}
-use Rattle.state.specs.Keeps.{KeepsMasks}
-use Rattle.views.specs.Viewed.{ViewedAs, NewMasks}
+use Rattle.views.specs.Viewed.{NewMasks}
 use Rattle.trace.specs.Format.{viewAt}
 use Rattle.shifts.specs.declared.Outcome.{Outcome}
-use Rattle.shifts.specs.declared.Outcome.the-variants.{Taken, Refused}
+use Rattle.shifts.specs.declared.Outcome.the-variants.{Taken}
 use Rattle.shifts.specs.Outcomes.{outcomeOf, Masks, ShiftTo, ShiftGiven}
 
 -- ---- codes 10, 11 and 12, in this order, and none

@@ -1,11 +1,11 @@
 -- What the answers about a record mean, and what is given where they are asked. Assumes nothing.
-use Prim.Native.Nat.{ℕ, _*_, _≤_, _<_}
+use Prim.Native.Nat.{ℕ, _≤_}
 use mathlib.Core.Path.{_≡_}
 use mathlib.Core.Option.{Option, some, none}
 use mathlib.Core.List.{List}
 use Rattle.sets.specs.Set.{Set}
 use Rattle.dependencies.specs.History as D
-use Rattle.store.specs.Limits.{maxKeys, maxClients, maxCommits}
+use Rattle.store.specs.Limits.{maxCommits}
 use Rattle.store.specs.Store.{View, Store, Configuration}
 use Rattle.store.specs.Refusal.{Refusal, badMask, halfHeld}
 use Rattle.store.proofs.Sound.{IsView, Sound, FitsView}
