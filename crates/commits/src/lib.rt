@@ -2,3 +2,4 @@
 // levels say of it, and what it changes.
 pub mod early; // early.rt: what is tested before the commit is made (codes 9 and 13)
 pub mod late; // late.rt: its view after (codes 10, 11 and 14)
+pub mod record; // record.rt: the whole record
