@@ -1,12 +1,9 @@
 -- One record of a run: what the calls ensure is what its answer says. Assumes nothing.
-use Prim.Native.Nat.{ℕ, suc, _+_, _*_, _≤_, _<_}
+use Prim.Native.Nat.{ℕ, suc, _+_, _≤_}
 use mathlib.Core.Path.{_≡_, refl, sym, ap, _∙_, subst, subst₂}
-use mathlib.Core.Bool.{true}
 use mathlib.Core.Option.{Option, some, none}
 use mathlib.Core.List.{List}
 use native.Mathlib.Omega.{arith}
-use native.Mathlib.Numerals.{add-one}
-use lib.ListN.{length}
 use Rattle.search.specs.Choose.{orElse}
 use Rattle.endian.specs.Endian.{Bytes}
 use Rattle.store.specs.Limits.{maxClients, maxCommits}
@@ -14,7 +11,7 @@ use Rattle.store.specs.Store.{Configuration, nextNumber, Commit, Event, shift, 
 use Rattle.store.specs.Update.{update, step}
 use Rattle.store.specs.Refusal.{refusesEvent}
 use Rattle.trace.specs.Format as Format
-use Rattle.trace.specs.Format.{viewAt, operationsAt, misshapen, whole, recordAt, commitsWith}
+use Rattle.trace.specs.Format.{viewAt, misshapen, whole, commitsWith}
 use Rattle.trace.specs.Meaning.{meaning, PlacesFit, RecordSays}
 use Rattle.trace.proofs.Decoded.{ReadAt, record-read}
 use Rattle.trace.proofs.WellFormed.{FitsEvent}
@@ -30,8 +27,7 @@ use Rattle.shifts.specs.Outcomes.{outcomeOf, ShiftGiven}
 use Rattle.commits.specs.declared.record.CommitAt.{CommitAt}
 use Rattle.commits.specs.Records.{ValuesFit, commitIn, Recorded}
 use Rattle.run.specs.declared.one.Next.{Next}
-use Rattle.run.specs.declared.one.Next.the-variants.{Goes, Stops}
-use Rattle.run.specs.OneRecord.{Readable, nextOf, NextWithin, Standing, Went, NextSays, Fitting}
+use Rattle.run.specs.OneRecord.{Readable, nextOf, NextWithin, Standing, NextSays, Fitting}
 
 -- ---- the record as it was read
 
