@@ -1,2 +1,3 @@
 pub mod Cases
 pub mod Begun
+pub mod Completed
