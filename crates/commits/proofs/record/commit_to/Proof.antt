@@ -1,3 +1,8 @@
+use mathlib.Core.Path.{refl, sym, ap, _∙_}
+use native.Mathlib.Omega.{arith}
+use Rattle.shifts.specs.Outcomes.{outcomeOf}
+use Rattle.shifts.proofs.Refused.{not-taken}
+use Rattle.commits.proofs.Turns.{refused-early, taken-early, answered-late}
 use borrow.Author.Needs.{needs}
 use Rattle.commits.proofs.record.commit_to.Statement.{statement}
 use Rattle.commits.proofs.record.commit_to.Tie as tie
@@ -36,14 +41,23 @@ same-length-5 c = search needs
 
 -- src/record.rt:116:9
 returns : tie.Need-returns
-returns c = ?
+returns c =
+    let a = c .before .before .before .before .before .before .before .before .before .before .before .before .before .before .before .before .before .before .before .before .before .before .before .before .args in
+    let b = c .before .before .before .before .before .before .before .begin in
+    λ g clients fs r number small verdicts.
+      let h = b .ensures g clients (a .number) (a .keys .now) (a .seen .now) (a .commits .now) (a .links .now) r small in
+      ( refused-early (a .number) g _ _ (sym (ap (outcomeOf (a .number)) (c .before .first .given .1)) ∙ h .answer)
+      , h .operations .value-fits
+      , λ taken. not-taken _ refl taken )
 
 enum-told : tie.Need-enum-told
 enum-told c = search needs
 
 -- src/record.rt:118:5
 complete-requires : tie.Need-complete-requires
-complete-requires c κs = ?
+complete-requires c κs =
+    let p = c .before .before .before .before .before .before .before .before .before .before .before .before .before .before .before .before .before .before .before .before .before .before .before .before .before .before .before .before .before .before .before .before .before .pre in
+    ((p .0 .0, p .0 .1, p .0 .3, p .0 .2, omega arith, omega arith, p .1 .0 .2), p .1 .1)
 
 -- src/record.rt:94:1
 same-length-6 : tie.Need-same-length-6
@@ -87,7 +101,16 @@ same-length-15 c = search needs
 
 -- src/record.rt:94:1
 returns-2 : tie.Need-returns-2
-returns-2 c = ?
+returns-2 c =
+    let a = c .before .before .before .before .before .before .before .before .before .before .before .before .before .before .before .before .before .before .before .before .before .before .before .before .before .before .before .before .before .before .before .before .before .before .before .before .before .before .before .before .before .before .before .before .before .before .before .before .before .before .args in
+    let b = c .before .before .before .before .before .before .before .before .before .before .before .before .before .before .before .before .before .before .before .before .before .before .before .before .before .before .before .before .before .before .before .before .before .begin in
+    let z = c .before .before .before .before .before .before .before .before .before .before .before .before .before .before .before .before .complete in
+    λ g clients fs r number small verdicts.
+      let h = b .ensures g clients (a .number) (a .keys .now) (a .seen .now) (a .commits .now) (a .links .now) r small in
+      let n = taken-early (a .number) g _ _ (c .before .before .before .before .before .before .before .before .before .before .before .before .before .before .before .before .before .before .before .before .before .before .before .before .before .before .before .enum-told .given .1) (h .answer) in
+      ( answered-late (a .number) g _ n _ (z .ensures .0 g _ clients (a .number) r refl refl number (h .operations) (h .masks) n)
+      , h .operations .value-fits
+      , λ taken. z .ensures .1 g _ clients fs r refl refl number (h .operations) (h .masks) n verdicts taken )
 
 pub commit-to-spec : {M : Type 1} → statement M
 commit-to-spec =
