@@ -7,7 +7,7 @@ use mathlib.Core.Option.{Option, some, none}
 use mathlib.Core.List.{List, [], _∷_}
 use native.Mathlib.Omega.{arith}
 use lib.Dec.{T, eqb, ltb, leb}
-use lib.ListN.{getD}
+use lib.ListN.{getD, set}
 use Rattle.search.specs.Choose.{isSome, mapSome, when, orElse, firstSome}
 use Rattle.search.specs.Search.{any}
 use Rattle.search.proofs.Tests.{both, and-is, eq-is, lt-is, le-is, T-true, T-false}
@@ -16,7 +16,7 @@ use Rattle.dependencies.specs.History as D
 use Rattle.sets.specs.Set.{Set}
 use Rattle.store.specs.Limits.{maxKeys, maxClients, maxCommits}
 use Rattle.store.specs.Store.{View, Store, Configuration, nextNumber, Commit, commit}
-use Rattle.store.specs.Update.{update, viewBefore, storeAfter}
+use Rattle.store.specs.Update.{update, step, viewBefore, storeAfter}
 use Rattle.store.specs.Missing.{Place}
 use Rattle.store.specs.Links.{stored}
 use Rattle.store.specs.Refusal.{Refusal, refuse, refuseKey, refusePlace, notAbove, oldNumber, wrongRead, badMask, halfHeld, stray, refusesEvent}
@@ -26,10 +26,12 @@ use Rattle.store.proofs.Links.{history, held, appears-stored}
 use Rattle.growth.proofs.Made.{Made, keys-after, sound-after, number-after}
 use Rattle.growth.proofs.Ordered.{ordered-commit}
 use Rattle.growth.proofs.Views.{holds-kept}
-use Rattle.state.specs.Keeps.{IsSet, CommitOf, KeepsSessions}
+use Rattle.state.specs.Keeps.{IsSet, CommitOf, KeepsSessions, KeepsViews}
 use Rattle.state.proofs.Sets.{isSet-as}
 use Rattle.views.specs.Rules.{StoreAndView}
+use Rattle.views.specs.Rows.{Kept}
 use Rattle.shifts.specs.Outcomes.{Masks}
+use Rattle.shifts.proofs.Replaced.{commit-replaces}
 use Rattle.commits.specs.Codes.{earlyRefusal, lateRefusal, EarlyGiven, LateGiven}
 
 -- the codes of a commit are those before it is made, and then those after
@@ -142,6 +144,15 @@ module _ (g : Configuration) (c : Commit) (values versions keys fresh views seen
       row k p = l .in-views .rows client b k (omega (arith, l .keys-are)) ∙ ap (λ (d : ℕ). g .views d k) (sym (l .client-is))
       holds : IsSet (getD seen client 0) (D.Holds (history (g .store)) (held (viewBefore g c)))
       holds = subst (λ (d : ℕ). IsSet (getD seen client 0) (D.Holds (history (g .store)) (held (g .views d)))) (sym (l .client-is)) (l .in-views .holds client b)
+
+  -- the views after it, where the masks are kept as the client's
+  pub late-kept : n ≤ maxKeys → (views′ : List ℕ) (m : ℕ) → Kept fresh (maxKeys * client) n views views′
+      → IsSet m (D.Holds (history (storeAfter g c)) (held (c .viewAfter))) → KeepsViews (step g (commit c)) views′ (set seen client m)
+  late-kept few views′ m k s =
+      let own : c .client < maxClients = let e = l .client-is in omega arith in
+      subst (λ (d : ℕ). KeepsViews (step g (commit c)) views′ (set seen d m)) (l .client-is)
+      (commit-replaces g c n (l .sound) (l .made) few (l .keys-are) own views views′ seen fresh m (l .in-views) (l .in-fresh)
+        (subst (λ (d : ℕ). Kept fresh (maxKeys * d) n views views′) (sym (l .client-is)) k) s)
 
 -- the bar as the code reads it
 module _ (s : Store) (u : View) (c : Commit) (sessions versions views values : List ℕ) (client session : ℕ) (ranks : Set) (n : ℕ)

@@ -1,2 +1,4 @@
 pub mod Cases
 pub mod Begun
+pub mod Completed
+pub mod Turns

@@ -33,21 +33,16 @@ pub fn late(versions: &[u64], keys: &[u64], fresh: &[u64], views: &mut [u64], se
     }
 {
     let base = 16 * client;
-    let s = sight(versions, keys, fresh, views, base, seen[client], n);
-    if let Sight::Bad(k) = s {
-        return Outcome::Refused { code: 10, key: k, version: VersionNumber(0) };
+    match sight(versions, keys, fresh, views, base, seen[client], n) {
+        Sight::Bad(k) => Outcome::Refused { code: 10, key: k, version: VersionNumber(0) },
+        Sight::Half(k, v) => Outcome::Refused { code: 11, key: k, version: v },
+        Sight::Holds(m) => {
+            if let FoundKey::AtKey(k) = views::masks::stray(fresh, views, base, ranks, n) {
+                return Outcome::Refused { code: 14, key: k, version: VersionNumber(0) };
+            }
+            views::masks::keep(views, base, fresh, n);
+            seen[client] = m;
+            Outcome::Taken
+        }
     }
-    if let Sight::Half(k, v) = s {
-        return Outcome::Refused { code: 11, key: k, version: v };
-    }
-    let Sight::Holds(m) = s else {
-        return Outcome::Taken;
-    };
-    let stray = views::masks::stray(fresh, views, base, ranks, n);
-    if let FoundKey::AtKey(k) = stray {
-        return Outcome::Refused { code: 14, key: k, version: VersionNumber(0) };
-    }
-    views::masks::keep(views, base, fresh, n);
-    seen[client] = m;
-    Outcome::Taken
 }

@@ -1,8 +1,15 @@
 // The call that judges a trace file: it is lent the file in one slice and an image buffer in another, and gives one answer.
 pub mod ending; // ending.rt: the answer for a trace that was run to its end
 pub mod told; // told.rt: the verdicts, from the words in which they are kept
+pub mod whole; // whole.rt: the answer for a file in form
 
 use state::{Key, VersionNumber};
+use trace::form::Form;
+ghost use mathlib.Core.Path.{_≡_};
+ghost use lib.ListN.{length};
+ghost use Rattle.answer.specs.Answer.{imageAfter};
+ghost use Rattle.answer.specs.Demand3.{Demand3};
+ghost use Rattle.judge.specs.Answers.{answerOf, toldAnswer};
 
 // What a level says of a trace: it accepts, or it is refused at the first commit that fails it.
 pub enum Verdict {
@@ -28,4 +35,21 @@ pub struct Verdicts {
 pub enum Answer {
     Refused { code: usize, record: usize, key: Key, version: VersionNumber },
     Judged { verdicts: Verdicts, records: usize, commits: usize, image_length: usize },
+}
+
+// The answer for the bytes of a file, whatever they are; where it was judged, the image stands at the start of the buffer.
+pub fn judge(file: &[u8], buffer: &mut [u8]) -> Answer
+    ensures answer { λ r. ⌜ answerOf r ≡ toldAnswer (now (file .entry)) (length (now (buffer .entry))) ⌝ }
+    ensures image { λ _. ⌜ now (buffer .exit) ≡ imageAfter (now (file .entry)) (now (buffer .entry)) ⌝ }
+    ensures demand3 { λ _. ⌜ Demand3 (now (file .entry)) ⌝ }
+{
+    match trace::form::form_of(file) {
+        Form::Misshapen { code, record } => Answer::Refused {
+            code,
+            record,
+            key: Key(0),
+            version: VersionNumber(0),
+        },
+        Form::Whole(h) => whole::meaning(file, h, buffer),
+    }
 }

@@ -119,16 +119,16 @@ unfolding differs
 differs-none v t = t
 
 module _ (g : Configuration) (c : Commit) (h : Sound g) (f : FitsCommit (g .store .keys) c) where
-  abbrev s : Store
+  abbrev pub s : Store
   s = g .store
 
-  abbrev u : View
+  abbrev pub u : View
   u = viewBefore g c
 
-  abbrev Newer : Type 0
+  abbrev pub Newer : Type 0
   Newer = (t : CommitNumber) → Appears s t → 0 < t → s .clientOf t ≡ c .client → s .sessionOf t < c .session
 
-  newer-is : (¬ T (oldNumber s c)) ↔ Newer
+  pub newer-is : (¬ T (oldNumber s c)) ↔ Newer
   unfolding oldNumber
   newer-is =
       ( λ n t a p e. go t a p e n (decLt (s .sessionOf t) (c .session))

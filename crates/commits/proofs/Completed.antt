@@ -1,0 +1,125 @@
+-- A commit that is not refused before it is made: what each part of the work on it is given, and what they come to together. Assumes
+-- nothing.
+use Prim.Native.Nat.{ℕ, suc, _+_, _*_, _≤_, _<_}
+use mathlib.Core.Path.{_≡_, refl, sym, ap, _∙_, subst}
+use mathlib.Core.Logic.{_↔_}
+use mathlib.Core.Option.{Option, some, none}
+use mathlib.Core.List.{List, [], _∷_}
+use native.Mathlib.Omega.{arith}
+use lib.Dec.{T}
+use lib.ListN.{getD}
+use Rattle.search.specs.Choose.{mapSome, when, orElse, firstSome}
+use Rattle.search.proofs.Tests.{when-none, firstSome-none}
+use Rattle.sets.specs.Set.{Set}
+use Rattle.dependencies.specs.History as D
+use Rattle.store.specs.Limits.{maxKeys, maxClients, maxCommits}
+use Rattle.store.specs.Store.{View, Store, Configuration, nextNumber, Commit, commit}
+use Rattle.store.specs.Update.{update, step, viewBefore, storeAfter}
+use Rattle.store.specs.Refusal.{refuse, refusePlace, oldNumber, wrongRead}
+use Rattle.store.proofs.Sound as Store
+use Rattle.store.proofs.Legal.{newer-is}
+use Rattle.store.proofs.Links.{history, held}
+use Rattle.growth.proofs.Made.{Made, sound-after}
+use Rattle.trace.proofs.Fits.{commit-fits}
+use Rattle.levels.specs.Level.{Level, Failure, failsEvent, failsClauses, clausesOf}
+use Rattle.state.specs.Keeps.{IsSet, KeepsVersions, KeepsKeys, KeepsViews, KeepsMasks, KeepsOperations, Keeps}
+use Rattle.views.specs.Rules.{StoreAndView}
+use Rattle.verdicts.specs.AtHand.{BeforeCommit}
+use Rattle.verdicts.specs.Verdicts.{KeepsVerdicts}
+use Rattle.making.specs.Commits.{CommitGiven, MadeIn}
+use Rattle.commits.specs.Codes.{earlyRefusal, LateGiven}
+use Rattle.commits.specs.Records.{Recorded}
+
+module _ (g : Configuration) (c : Commit) (clients n : ℕ) (versions keys views seen sessions commits links values fresh : List ℕ) (client : ℕ) (ranks : Set)
+    (r : Recorded g c clients n versions keys views seen sessions commits links) (own : c .client ≡ client)
+    (o : KeepsOperations c ranks values) (f : KeepsMasks n (c .viewAfter) fresh) (i : ℕ) (early : earlyRefusal i (g .store) (viewBefore g c) c ≡ none) where
+  fits : Store.FitsCommit (g .store .keys) c
+  fits = subst (λ (k : ℕ). Store.FitsCommit k c) (sym (r .keys-are)) (commit-fits n clients c (r .fits))
+
+  below : client < maxClients
+  below = let x = r .fits .client-below in let y = r .few-clients in omega arith
+
+  new-number : ¬ T (oldNumber (g .store) c)
+  unfolding earlyRefusal
+  new-number = when-none (oldNumber (g .store) c) (refuse 9 i) .0 (firstSome-none _ .0 early .0)
+
+  pub made : Made (g .store) (viewBefore g c) c
+  made = record { sound = r .sound .store; view = r .sound .views (c .client); fits = fits; newer = newer-is g c (r .sound) fits .0 new-number }
+
+  row : (k : ℕ) → k < n → getD views (maxKeys * client + k) 0 ≡ viewBefore g c k
+  row k l = r .keeps .in-views .rows client below k (let e = r .keys-are in omega arith) ∙ ap (λ (d : ℕ). g .views d k) (sym own)
+
+  holds : IsSet (getD seen client 0) (D.Holds (history (g .store)) (held (viewBefore g c)))
+  holds = subst (λ (d : ℕ). IsSet (getD seen client 0) (D.Holds (history (g .store)) (held (g .views d)))) (sym own) (r .keeps .in-views .holds client below)
+
+  -- what the levels are given
+  pub before-commit : BeforeCommit (g .store) (viewBefore g c) c versions keys commits links views fresh values (getD seen client 0) ranks (maxKeys * client) n
+  before-commit = record {
+    arrays = record {
+      number = r .keys-are;
+      sound = r .sound .store;
+      few = let x = r .room-left in omega arith;
+      in-versions = r .keeps .in-versions;
+      in-keys = r .keeps .in-keys;
+      in-masks = row
+    };
+    view = r .sound .views (c .client);
+    sound-after = sound-after (g .store) (viewBefore g c) c made;
+    another = let x = r .room-left in omega arith;
+    in-commits = r .keeps .in-commits;
+    in-links = r .keeps .in-links;
+    holds = holds;
+    operations = o;
+    masks = f
+  }
+
+  -- what the making of the commit is given
+  pub commit-given : CommitGiven (g .store) (viewBefore g c) c versions keys views sessions values client ranks n
+  commit-given = record {
+    made = made;
+    ordered = r .ordered;
+    keys-are = r .keys-are;
+    room-left = r .room-left;
+    client-is = own;
+    in-versions = r .keeps .in-versions;
+    in-keys = r .keeps .in-keys;
+    row = row;
+    in-sessions = r .keeps .in-sessions;
+    operations = o
+  }
+
+  module _ (versions′ keys′ sessions′ commits′ links′ : List ℕ) (k : MadeIn (storeAfter g c) versions′ keys′ sessions′ commits′ links′) where
+    -- what the test of the view after is given
+    pub late-given : LateGiven g c values versions′ keys′ fresh views seen client ranks n
+    late-given = record {
+      sound = r .sound;
+      made = made;
+      ordered = r .ordered;
+      keys-are = r .keys-are;
+      room-left = r .room-left;
+      client-is = own;
+      operations = o;
+      in-versions = k .in-versions;
+      in-keys = k .in-keys;
+      in-fresh = f;
+      in-views = r .keeps .in-views
+    }
+
+    -- the arrays after it
+    pub kept-after : (views′ seen′ : List ℕ) → KeepsViews (step g (commit c)) views′ seen′ → Keeps (step g (commit c)) versions′ keys′ views′ seen′ sessions′ commits′ links′
+    unfolding step
+    kept-after views′ seen′ v = record {
+      in-versions = k .in-versions;
+      in-keys = k .in-keys;
+      in-views = v;
+      in-sessions = k .in-sessions;
+      in-commits = k .in-commits;
+      in-links = k .in-links
+    }
+
+-- the failures of a commit, as the run asks for them
+pub noted : (g : Configuration) (c : Commit) (number : ℕ) (fs : Level → Option Failure) (verdicts : List ℕ)
+    → KeepsVerdicts (λ l. orElse (fs l) (failsClauses number (g .store) (viewBefore g c) c (clausesOf l))) verdicts
+    → KeepsVerdicts (λ l. orElse (fs l) (failsEvent l number g (commit c))) verdicts
+unfolding failsEvent
+noted g c number fs verdicts k = k

@@ -1,0 +1,67 @@
+use Prim.Native.Nat.{_*_}
+use mathlib.Core.Path.{_≡_, refl}
+use native.Mathlib.Omega.{arith}
+use lib.ListN.{length}
+use Rattle.store.specs.Limits.{maxKeys}
+use Rattle.store.specs.Update.{viewBefore}
+use Rattle.commits.specs.Records.{commitIn}
+use Rattle.commits.proofs.Begun.{masks-read, operations-read, early-given}
+use borrow.Author.Needs.{needs}
+use Rattle.commits.proofs.record.begin.Statement.{statement}
+use Rattle.commits.proofs.record.begin.Tie as tie
+use Rattle.commits.proofs.record.begin.Reads as reads
+use Rattle.commits.proofs.record.begin.Lts as lts
+use Rattle.commits.proofs.early.early.Reads as early-reads
+use Rattle.trace.proofs.contents.masks_into.Reads as masks-into-reads
+use Rattle.trace.proofs.contents.sort_operations.Reads as sort-operations-reads
+
+-- src/record.rt:57:5
+masks-into-requires : tie.Need-masks-into-requires
+masks-into-requires c κs = search needs
+
+-- src/record.rt:58:9
+sort-operations-requires : tie.Need-sort-operations-requires
+sort-operations-requires c κs = search needs
+
+-- src/record.rt:59:9
+early-requires : tie.Need-early-requires
+early-requires c κs = search needs
+
+-- src/record.rt:40:1
+same-length : tie.Need-same-length
+same-length c = search needs
+
+-- src/record.rt:40:1
+same-length-2 : tie.Need-same-length-2
+same-length-2 c = search needs
+
+-- src/record.rt:40:1
+returns : tie.Need-returns
+returns c =
+    let b = c .before .before .before .before .before .before .before .before .before .before .before .before .before .before .before .before in
+    let a = b .args in
+    let file = a .file .now in
+    let sorted = c .before .before .before .before .sort-operations in
+    let copied = c .before .before .before .before .before .before .before .before .masks-into in
+    let long : length (sorted .last .1 .1 .1 .0) ≡ 2 * maxKeys = omega arith in
+    let wide : length (copied .last .1 .1 .0) ≡ maxKeys = omega arith in
+    λ g clients i keys seen commits links r small.
+        let k = commitIn file (a .at) (a .n) in
+        let o = operations-read (k .operations) (a .n) (r .fits .rising) (sorted .result) (a .values .now) (sorted .last .1 .1 .1 .0) (sorted .ensures .0) (sorted .ensures .1) k refl long small in
+        record {
+          answer = c .early .ensures (g .store) (viewBefore g k) k i
+            (early-given g k clients (a .n) (a .versions .now) keys (a .views .now) seen (a .sessions .now) commits links (sorted .last .1 .1 .1 .0) (sorted .result) r o);
+          operations = o;
+          masks = masks-read file (a .at .masks) (a .n) (copied .last .1 .1 .0) wide (copied .ensures .0)
+        }
+
+pub begin-spec : {M : Type 1} → statement M
+begin-spec =
+    tie.close
+    (tie.spec
+    masks-into-requires
+    sort-operations-requires
+    early-requires
+    same-length
+    same-length-2
+    returns)
