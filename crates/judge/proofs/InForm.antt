@@ -1,7 +1,7 @@
 -- A file in form: its records start on the opening arrays, and where they were run to their end the trace is finished. Assumes nothing.
 use Prim.Native.Nat.{ℕ, _+_, _*_, _^_, _≤_, _<_, zero-le}
-use mathlib.Core.Path.{_≡_, refl, sym, ap, _∙_, subst}
-use mathlib.Core.Option.{Option, some, none}
+use mathlib.Core.Path.{_≡_, sym, subst}
+use mathlib.Core.Option.{some, none}
 use mathlib.Core.List.{List}
 use native.Mathlib.Omega.{arith}
 use native.Mathlib.Decide.{decLt}
@@ -10,21 +10,19 @@ use lib.ListN.{length, getD, length-replicate, getD-replicate, List·getD-eq-def
 use Rattle.endian.specs.Endian.{Bytes}
 use Rattle.store.specs.Limits.{maxKeys, maxClients, maxCommits, minBytes, maxBytes}
 use Rattle.store.specs.Store.{opening, openingStore, Event}
-use Rattle.store.specs.Update.{final, firstAlong}
+use Rattle.store.specs.Update.{firstAlong}
 use Rattle.store.specs.Refusal.{refuse, refusesEvent}
 use Rattle.store.proofs.Run.{final-commits}
-use Rattle.trace.specs.Result.{refused, taken}
-use Rattle.trace.specs.Format.{Trace, eventsFrom, decode}
+use Rattle.trace.specs.Result.{refused}
+use Rattle.trace.specs.Format.{Trace}
 use Rattle.trace.specs.Meaning.{headerOf, WholeFile, FormSays}
 use Rattle.trace.specs.declared.form.Header.{Header}
 use Rattle.trace.specs.declared.form.Form.{Form}
 use Rattle.trace.specs.declared.form.Form.the-variants.{Whole, Misshapen}
-use Rattle.trace.proofs.Sizes.{eventsLength, length-encode}
-use Rattle.trace.proofs.WellFormed.{WellFormed}
+use Rattle.trace.proofs.Sizes.{length-encode}
 use Rattle.trace.proofs.Decoded.{IfTaken, EventsRead, events-read, decoded-well-formed, decoded-length}
-use Rattle.levels.specs.Level.{Level, firstFailure}
+use Rattle.levels.specs.Level.{firstFailure}
 use Rattle.state.specs.Places.{perKey, numbers}
-use Rattle.state.specs.Keeps.{Keeps}
 use Rattle.state.proofs.Opening.{filled, keeps-opening}
 use Rattle.verdicts.specs.Verdicts.{KeepsVerdict, KeepsVerdicts}
 use Rattle.state.specs.declared.Key.{Key}

@@ -1,3 +1,4 @@
 pub mod Answered
 pub mod InForm
+pub mod PutWords
 pub mod Words
