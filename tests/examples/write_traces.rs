@@ -17,6 +17,6 @@ fn main() -> std::io::Result<()> {
     fs::write(root.join("crates/vectors/args"), arguments())?;
     fs::write(root.join("crates/vectors/stdout"), printed())?;
     let b = encode(&trace_b());
-    fs::write(root.join("crates/judge_trace/stdin"), &b)?;
-    fs::write(root.join("crates/judge_trace/stdout"), report_of(&b))
+    fs::write(root.join("crates/judge/stdin"), &b)?;
+    fs::write(root.join("crates/judge/stdout"), report_of(&b))
 }

@@ -56,8 +56,8 @@ fn every_trace_has_a_line_in_the_readme() {
 #[test]
 fn what_the_programs_read_and_print() {
     let b = encode(&trace_b());
-    assert_eq!(kept("crates/judge_trace/stdin"), b);
-    assert_eq!(kept("crates/judge_trace/stdout"), report_of(&b).as_bytes());
+    assert_eq!(kept("crates/judge/stdin"), b);
+    assert_eq!(kept("crates/judge/stdout"), report_of(&b).as_bytes());
     assert_eq!(kept("crates/vectors/args"), arguments().as_bytes());
     assert_eq!(kept("crates/vectors/stdout"), printed().as_bytes());
 }

@@ -1,5 +1,5 @@
 // The report of a trace file, written to standard output. Each line ends with one line feed.
-use judge::{Answer, Verdict, Verdicts};
+use judging::{Answer, Verdict, Verdicts};
 use libc::STDOUT_FILENO;
 use state::{Key, VersionNumber};
 

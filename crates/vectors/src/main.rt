@@ -17,7 +17,7 @@ fn judge_argument(i: usize) {
     libc::close(fd);
     io::write_all(STDOUT_FILENO, &name[..length]);
     io::write_all(STDOUT_FILENO, b"\n");
-    report::print(judge::judge(&file[..n], &mut image));
+    report::print(judging::judge(&file[..n], &mut image));
 }
 
 fn main() {

@@ -1,0 +1,134 @@
+-- A file in form: its records start on the opening arrays, and where they were run to their end the trace is finished. Assumes nothing.
+use Prim.Native.Nat.{ℕ, _+_, _*_, _^_, _≤_, _<_, zero-le}
+use mathlib.Core.Path.{_≡_, sym, subst}
+use mathlib.Core.Option.{some, none}
+use mathlib.Core.List.{List}
+use native.Mathlib.Omega.{arith}
+use native.Mathlib.Decide.{decLt}
+use lib.Dec.{lit<}
+use lib.ListN.{length, getD, length-replicate, getD-replicate, List·getD-eq-default}
+use Rattle.endian.specs.Endian.{Bytes}
+use Rattle.store.specs.Limits.{maxKeys, maxClients, maxCommits, minBytes, maxBytes}
+use Rattle.store.specs.Store.{opening, openingStore, Event}
+use Rattle.store.specs.Update.{firstAlong}
+use Rattle.store.specs.Refusal.{refuse, refusesEvent}
+use Rattle.store.proofs.Run.{final-commits}
+use Rattle.trace.specs.Result.{refused}
+use Rattle.trace.specs.Format.{Trace}
+use Rattle.trace.specs.Meaning.{headerOf, WholeFile, FormSays}
+use Rattle.trace.specs.declared.form.Header.{Header}
+use Rattle.trace.specs.declared.form.Form.{Form}
+use Rattle.trace.specs.declared.form.Form.the-variants.{Whole, Misshapen}
+use Rattle.trace.proofs.Sizes.{length-encode}
+use Rattle.trace.proofs.Decoded.{IfTaken, EventsRead, events-read, decoded-well-formed, decoded-length}
+use Rattle.levels.specs.Level.{firstFailure}
+use Rattle.state.specs.Places.{perKey, numbers}
+use Rattle.state.proofs.Opening.{filled, keeps-opening}
+use Rattle.verdicts.specs.Verdicts.{KeepsVerdict, KeepsVerdicts}
+use Rattle.state.specs.declared.Key.{Key}
+use Rattle.state.specs.declared.VersionNumber.{VersionNumber}
+use Rattle.run.specs.Ran.{Starts, Ended, RanSays}
+use Rattle.run.specs.declared.Ran.{Ran}
+use Rattle.run.specs.declared.Ran.the-variants.{Done, Refused}
+use Rattle.judging.specs.Finished.{Finished}
+use Rattle.judging.proofs.Answered.{Answers, misshapen-answer, accepted}
+
+-- the trace of a file in form
+abbrev pub traceOf : {s : List ℕ} {h : Header} → WholeFile s h → Trace
+traceOf {s} {h} w = record { keys = h .keys; clients = h .clients; events = w .events }
+
+-- a file in form is neither too short nor too long
+pub whole-length : {s : List ℕ} → Bytes s → {h : Header} → WholeFile s h → (minBytes ≤ length s) × (length s ≤ maxBytes)
+whole-length {s} b {h} w =
+    let short = decoded-well-formed s b (traceOf w) (w .decoded) .short in
+    let same = decoded-length s b (traceOf w) (w .decoded) in
+    let size = length-encode (traceOf w) in
+    (omega arith, omega arith)
+
+-- ---- at the start
+
+-- zeros are read as zero at any place
+zeros : (n j : ℕ) → getD (filled n 0) j 0 ≡ 0
+zeros n j = go (decLt j n)
+  where
+    go : Dec (j < n) → getD (filled n 0) j 0 ≡ 0
+    go (yes l) = getD-replicate n j 0 0 l
+    go (no m) = List·getD-eq-default (filled n 0) 0 (let e : length (filled n 0) ≡ n = length-replicate {A = ℕ} n 0 in omega arith)
+
+-- no level has failed
+no-failure : KeepsVerdicts (λ l. none) (filled 40 0)
+unfolding KeepsVerdict
+no-failure = record { room = length-replicate {A = ℕ} 40 0; verdict = λ i l. zeros 40 i }
+
+no-value : (r : ℕ) → getD (filled 32 0) r 0 < 2 ^ 32
+no-value r = let z = zeros 32 r in subst (λ (x : ℕ). x < 2 ^ 32) (sym z) (lit< tt)
+
+-- the records start on the arrays of the opening store, with no failure
+pub starts : {s : List ℕ} {h : Header} (w : WholeFile s h) {versions keys views seen sessions commits links verdicts values : List ℕ}
+    → versions ≡ filled (2 * (perKey * maxKeys)) 0 → keys ≡ filled (2 * maxKeys) 1 → views ≡ filled (maxClients * maxKeys) 1 → seen ≡ filled maxClients 1
+    → sessions ≡ filled (3 * maxClients) 0 → commits ≡ filled (3 * numbers) 0 → links ≡ filled (2 * numbers + 2 * maxKeys) 0
+    → verdicts ≡ filled 40 0 → values ≡ filled 32 0
+    → Starts s (h .keys) (h .clients) (h .records) (w .events) versions keys views seen sessions commits links verdicts values
+starts {s} {h} w e0 e1 e2 e3 e4 e5 e6 e7 e8 =
+    rw (e0, e1, e2, e3, e4, e5, e6, e7, e8) (record {
+      some-key = w .some-key;
+      few-keys = w .few-keys;
+      some-client = w .some-client;
+      few-clients = w .few-clients;
+      read = w .read;
+      keeps = keeps-opening (h .keys) (w .some-key) (w .few-keys);
+      no-failure = no-failure;
+      small = no-value;
+    })
+
+-- ---- at the end
+
+-- what was read of the records
+records-read : {s : List ℕ} → Bytes s → {h : Header} (w : WholeFile s h) → EventsRead s (headerOf h) (h .records) minBytes 0 (w .events)
+records-read {s} b {h} w = subst (IfTaken (EventsRead s (headerOf h) (h .records) minBytes 0)) (w .read) (events-read s b (headerOf h) (h .records) minBytes 1 0 zero-le)
+
+module _ {s : List ℕ} (b : Bytes s) {h : Header} (w : WholeFile s h) {count : ℕ} {versions keys views seen sessions commits links verdicts : List ℕ}
+    (e : Ended (h .keys) (w .events) count versions keys views seen sessions commits links verdicts) where
+  -- the commits that were made are few
+  pub few-made : count ≤ maxCommits
+  unfolding opening openingStore
+  few-made =
+      let r = records-read b w .few-commits in
+      let f = final-commits (opening (h .keys)) (w .events) in
+      let c = e .counted in
+      omega arith
+
+  -- the arrays keep the last store of the trace, and its verdicts
+  pub finished : Finished s (traceOf w) versions keys commits verdicts (h .keys) count (h .records)
+  unfolding firstFailure
+  finished = record {
+    accepted = accepted s (traceOf w) (w .decoded) (e .none-refused);
+    all-records = records-read b w .counted;
+    in-versions = e .keeps .in-versions;
+    in-keys = e .keeps .in-keys;
+    in-commits = e .keeps .in-commits;
+    sound = e .sound .store;
+    clients-fit = e .clients-fit;
+    all-keys = e .keys-are;
+    all-commits = e .counted;
+    in-verdicts = e .failures;
+  }
+
+-- ---- what the calls answer, case by case
+
+pub whole-of : {s : List ℕ} {f : Form} {h : Header} → FormSays s f → f ≡ Whole h → WholeFile s h
+unfolding FormSays
+whole-of {s} says e = subst (FormSays s) e says
+
+-- a file that is not in form: its refusal, and the buffer as it came
+pub misshapen-said : {s : List ℕ} {f : Form} {code n : ℕ} (buffer : List ℕ) → FormSays s f → f ≡ Misshapen code n → Answers s buffer (refused (refuse code n)) buffer
+unfolding FormSays
+misshapen-said {s} buffer says e = misshapen-answer s buffer _ (subst (FormSays s) e says)
+
+module _ (n : ℕ) (es : List Event) (versions keys views seen sessions commits links verdicts : List ℕ) (r : Ran) (says : RanSays n es versions keys views seen sessions commits links verdicts r) where
+  pub ran-done : {count : ℕ} → r ≡ Done count → Ended n es count versions keys views seen sessions commits links verdicts
+  ran-done e = subst (RanSays n es versions keys views seen sessions commits links verdicts) e says
+
+  pub ran-refused : {code i : ℕ} {k : Key} {v : VersionNumber} → r ≡ Refused code i k v
+      → firstAlong refusesEvent 1 (opening n) es ≡ some (record { code = code; atRecord = i; key = k .0; version = v .0 })
+  ran-refused e = subst (RanSays n es versions keys views seen sessions commits links verdicts) e says
