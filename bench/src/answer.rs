@@ -1,0 +1,41 @@
+//! What a trace file is answered with.
+
+/// Either one bench code with what it names, or ten verdicts.
+#[derive(Clone, Copy, PartialEq, Eq, Debug)]
+pub enum Answer {
+    Refused(Refusal),
+    Judged(Report),
+}
+
+/// A bench code from 1 to 15; record, key and version are 0 where not named.
+#[derive(Clone, Copy, PartialEq, Eq, Debug)]
+pub struct Refusal {
+    pub code: u8,
+    pub record: u32,
+    pub key: u8,
+    pub version: u8,
+}
+
+impl Refusal {
+    /// A code that names its record only.
+    pub fn at(code: u8, record: u32) -> Refusal {
+        Refusal { code, record, key: 0, version: 0 }
+    }
+}
+
+/// Code 0: the verdicts in report order (MR, MW, RYW, WFR, CC, UA, PSI, CP, SI,
+/// SER) and the three numbers beside them.
+#[derive(Clone, Copy, PartialEq, Eq, Debug)]
+pub struct Report {
+    pub verdicts: [Verdict; 10],
+    pub records: u32,
+    pub commits: u32,
+    pub image_len: u32,
+}
+
+/// What one level says of the whole trace: its first failure, if any.
+#[derive(Clone, Copy, PartialEq, Eq, Debug)]
+pub enum Verdict {
+    Accepted,
+    Refused { commit: u8, record: u32, clause: u8, key: u8, version: u8 },
+}

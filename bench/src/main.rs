@@ -1,0 +1,245 @@
+//! The benchmark: times the ordinary judge, and the proved one beside it if it
+//! is linked in (feature `proved`), round by round on the same traces. With
+//! `--short` it leaves out how the times grow.
+
+use std::hint::black_box;
+use std::time::Instant;
+
+use bench::proved;
+use bench::traces::{describe, traces, Style, Trace};
+use bench::{Answer, Judge};
+
+const SEED: u64 = 1;
+const ROUNDS: usize = 21;
+/// The longest image there is.
+const IMAGE: usize = 16_960;
+
+/// A judge with what it keeps between calls; the number is as `JudgeFn` says.
+type BoxedJudge = Box<dyn FnMut(&[u8], &mut [u8]) -> u64>;
+
+/// A judge to be timed.
+struct Contender {
+    name: &'static str,
+    judge: BoxedJudge,
+}
+
+/// The ordinary judge first; times of the others are compared with its times.
+fn contenders() -> Vec<Contender> {
+    let mut ordinary = Box::new(Judge::new());
+    let judge =
+        Box::new(move |trace: &[u8], image: &mut [u8]| number(ordinary.judge(trace, image)));
+    let mut all = vec![Contender { name: "ordinary", judge }];
+    if let Some((name, judge)) = proved::proved() {
+        all.push(Contender { name, judge: Box::new(judge) });
+    }
+    all
+}
+
+/// An answer as one number: the code in the lowest eight bits, then the length
+/// of the image.
+fn number(answer: Answer) -> u64 {
+    let answer = black_box(answer); // the whole of it is wanted
+    match answer {
+        Answer::Refused(refusal) => u64::from(refusal.code),
+        Answer::Judged(report) => u64::from(report.image_len) << 8,
+    }
+}
+
+/// The times of one contender in microseconds: a row for each round, in it a
+/// time for each trace.
+struct Times(Vec<Vec<f64>>);
+
+/// Ways to make one number per trace out of many rounds.
+#[derive(Clone, Copy)]
+enum Way {
+    /// The quickest round.
+    Least,
+    /// The middle one of the rounds.
+    Median,
+    /// Each trace in the round that was quickest for it: what is left when the
+    /// machine is never quiet for a whole round.
+    EachLeast,
+}
+
+impl Way {
+    const ALL: [Way; 3] = [Way::Least, Way::Median, Way::EachLeast];
+
+    fn name(self) -> &'static str {
+        match self {
+            Way::Least => "least",
+            Way::Median => "median",
+            Way::EachLeast => "each least",
+        }
+    }
+}
+
+impl Times {
+    /// The mean time of the traces with these places.
+    fn of(&self, way: Way, places: &[usize]) -> f64 {
+        let sum = |round: &Vec<f64>| places.iter().map(|&place| round[place]).sum::<f64>();
+        let total = match way {
+            Way::EachLeast => places
+                .iter()
+                .map(|&place| self.0.iter().map(|round| round[place]).fold(f64::INFINITY, f64::min))
+                .sum(),
+            Way::Least => self.0.iter().map(sum).fold(f64::INFINITY, f64::min),
+            Way::Median => {
+                let mut sums: Vec<f64> = self.0.iter().map(sum).collect();
+                sums.sort_by(f64::total_cmp);
+                sums[sums.len() / 2]
+            }
+        };
+        total / places.len().max(1) as f64
+    }
+}
+
+/// Times the contenders on the traces, one after the other in each round; who
+/// is first changes from round to round.
+fn time(contenders: &mut [Contender], traces: &[Trace]) -> Vec<Times> {
+    let mut image = vec![0; IMAGE];
+    let mut times: Vec<Times> = contenders.iter().map(|_| Times(Vec::new())).collect();
+    for round in 0..ROUNDS {
+        for turn in 0..contenders.len() {
+            let which = (round + turn) % contenders.len();
+            let judge = &mut contenders[which].judge;
+            let mut spent = Vec::with_capacity(traces.len());
+            let mut start = Instant::now();
+            for trace in traces {
+                black_box(judge(black_box(&trace.bytes), &mut image));
+                let end = Instant::now();
+                spent.push((end - start).as_secs_f64() * 1e6);
+                start = end;
+            }
+            times[which].0.push(spent);
+        }
+    }
+    times
+}
+
+/// What reading the clock adds to each time, in microseconds.
+fn clock_cost() -> f64 {
+    let start = Instant::now();
+    for _ in 0..100_000 {
+        black_box(Instant::now());
+    }
+    start.elapsed().as_secs_f64() * 10.0
+}
+
+/// Every contender takes every trace, and all write the same image.
+fn check(contenders: &mut [Contender], traces: &[Trace]) {
+    for (place, trace) in traces.iter().enumerate() {
+        let mut first = Vec::new();
+        for contender in contenders.iter_mut() {
+            let mut image = vec![0xa5; IMAGE];
+            let code = (contender.judge)(&trace.bytes, &mut image) as u8;
+            assert_eq!(code, 0, "{} refuses trace {place}", contender.name);
+            if first.is_empty() {
+                first = image;
+            } else {
+                assert!(first == image, "{} writes another image of trace {place}", contender.name);
+            }
+        }
+    }
+}
+
+/// The places of all traces and of those of each style.
+fn groups(traces: &[Trace]) -> Vec<Vec<usize>> {
+    let all = 0..traces.len();
+    let mut groups = vec![all.clone().collect()];
+    for style in Style::ALL {
+        groups.push(all.clone().filter(|&place| traces[place].style == style).collect());
+    }
+    groups
+}
+
+/// The whole table for one set of traces.
+fn print_full(contenders: &mut [Contender], traces: &[Trace]) {
+    let times = time(contenders, traces);
+    let groups = groups(traces);
+    print!("{:<12} {:>10} {:>9}", "judge", "", "all");
+    for style in Style::ALL {
+        print!(" {:>9}", style.name());
+    }
+    println!();
+    for (contender, times) in contenders.iter().zip(&times) {
+        for way in Way::ALL {
+            print!("{:<12} {:>10}", contender.name, way.name());
+            for group in &groups {
+                print!(" {:>9.2}", times.of(way, group));
+            }
+            println!();
+        }
+    }
+    for other in &times[1..] {
+        for way in Way::ALL {
+            print!("{:<12} {:>10}", "ratio to 1st", way.name());
+            for group in &groups {
+                print!(" {:>9.2}", other.of(way, group) / times[0].of(way, group));
+            }
+            println!();
+        }
+    }
+}
+
+/// One line for each size: how the time grows.
+fn print_growth(contenders: &mut [Contender], sizes: &[(usize, usize)], number: usize) {
+    print!("{:>7} {:>5} {:>8}", "commits", "keys", "bytes");
+    for (place, contender) in contenders.iter().enumerate() {
+        print!("   {:>10}", contender.name);
+        for way in &Way::ALL[1..] {
+            print!(" {:>10}", way.name());
+        }
+        if place > 0 {
+            print!(" {:>10}", "ratios");
+        }
+    }
+    println!();
+    for &(commits, keys) in sizes {
+        let traces = traces(SEED, number, commits, keys);
+        check(contenders, &traces);
+        let times = time(contenders, &traces);
+        let all: Vec<usize> = (0..traces.len()).collect();
+        let bytes: usize = traces.iter().map(|trace| trace.bytes.len()).sum();
+        print!("{commits:>7} {keys:>5} {:>8}  ", bytes / traces.len());
+        for (place, other) in times.iter().enumerate() {
+            for way in Way::ALL {
+                print!(" {:>10.2}", other.of(way, &all));
+            }
+            if place > 0 {
+                for way in Way::ALL {
+                    print!(" {:>5.2}", other.of(way, &all) / times[0].of(way, &all));
+                }
+            }
+            print!("  ");
+        }
+        println!();
+    }
+}
+
+fn main() {
+    let mut contenders = contenders();
+    println!("microseconds per trace, {ROUNDS} rounds, one thread");
+    println!("least, median: of the rounds' means; each least: the mean of each trace's least");
+    println!("the image buffer is cleared once before the rounds and not between traces;");
+    println!("the ordinary judge keeps its workspace and clears in it only what it must");
+    println!("reading the clock adds {:.3} to each time", clock_cost());
+    if contenders.len() > 1 {
+        println!("the judges take turns in each round, on the same traces and buffer");
+    }
+
+    let long = traces(SEED, 1_000, 63, 16);
+    println!("\n63 commits, 16 keys: {}", describe(&long));
+    check(&mut contenders, &long);
+    print_full(&mut contenders, &long);
+    if std::env::args().any(|argument| argument == "--short") {
+        return;
+    }
+
+    println!("\nby commits, 1,000 traces each");
+    let sizes = [1, 2, 4, 8, 16, 24, 32, 48, 63].map(|commits| (commits, 16));
+    print_growth(&mut contenders, &sizes, 1_000);
+
+    println!("\nby keys, 1,000 traces each");
+    let sizes = [1, 2, 4, 8, 12, 16].map(|keys| (63, keys));
+    print_growth(&mut contenders, &sizes, 1_000);
+}
