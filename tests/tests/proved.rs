@@ -1,5 +1,5 @@
-//! The proved judge against the model: the same answer to every file, and the same bytes in the lent buffer, of every length around
-//! the one needed.
+//! The proved judge against the model: the same answer to every file, and the same bytes in the lent buffer, for several lengths of
+//! the buffer from none to more than enough.
 #![cfg(feature = "proved")]
 
 use model::generate::case;
