@@ -1,5 +1,7 @@
 // The numbers of the store, kept from being swapped by accident, and answers that name a key or a version. The arrays in which the
 // judge keeps a configuration are described in specs/Places.antt (where things stand) and specs/Keeps.antt (what they say).
+ghost use Prim.Native.Nat.{_≤_, _<_};
+ghost use Rattle.state.specs.Accesses.{Left};
 
 // The number of a key.
 pub struct Key(pub usize);
@@ -20,4 +22,13 @@ pub enum Found {
 pub enum FoundKey {
     AtKey(Key),
     NoKey,
+}
+
+// The keys below n that have an operation of this access (0 for reads, 1 for writes), as the set of twice their numbers. A loop over it
+// costs what there is to do, where a loop over all keys would ask of each.
+pub fn keys_with(ranks: u64, access: usize, n: usize) -> u64
+    requires { ⌜ (access < 2) × (n ≤ 16) ⌝ }
+    ensures { λ r. ⌜ Left ranks access n 0 r ⌝ }
+{
+    (ranks >> access) & 0x5555_5555_5555_5555 & sets::below(2 * n)
 }
