@@ -15,22 +15,22 @@ use Rattle.sets.specs.Set.{Set, has, single, below, without, lowest}
 use Rattle.sets.proofs.Digits.{at-place, digit-and}
 use Rattle.sets.proofs.Laws.{has-none, has-lt, has-below, below-has, below-word, has-lowest, lowest-least, single-only, single-has}
 use Rattle.sets.proofs.Algebra.{without-is, without-word}
-use Rattle.state.specs.Accesses.{Left}
+use Rattle.state.specs.Accesses.{rank, Left}
 
 -- ---- one turn of the loop
 
 module _ {ranks : Set} {access n k : ℕ} {left : Set} (h : Left ranks access n k left) (p : 0 < left) where
-  least : (q : ℕ) × (lowest left ≡ 2 * q) × (k ≤ q) × (q < n) × T (has ranks (2 * q + access))
+  least : (q : ℕ) × (lowest left ≡ 2 * q) × (k ≤ q) × (q < n) × T (has ranks (rank access q))
   least = h .only (lowest left) (has-lowest left p (h .word))
 
   -- the key of the turn: there is an operation, and none on the keys before it that are still to be passed
-  pub next-key : {q : ℕ} → q ≡ lowest left / 2 → (k ≤ q) × (q < n) × T (has ranks (2 * q + access)) × ((j : ℕ) → k ≤ j → j < q → ¬ T (has ranks (2 * j + access)))
+  pub next-key : {q : ℕ} → q ≡ lowest left / 2 → (k ≤ q) × (q < n) × T (has ranks (rank access q)) × ((j : ℕ) → k ≤ j → j < q → ¬ T (has ranks (rank access j)))
   next-key {q} e =
       let (x, d, a, b, t) = least in
       let f : q ≡ x = omega (arith, e, d) in (
         omega (arith, f, a),
         omega (arith, f, b),
-        subst (λ (y : ℕ). T (has ranks (2 * y + access))) (sym f) t,
+        subst (λ (y : ℕ). T (has ranks (rank access y))) (sym f) t,
         λ j l m u. let g : lowest left ≤ 2 * j = lowest-least left p (h .word) (2 * j) (h .all j l (omega (arith, f, b)) u) in omega (arith, f, d, g),
       )
 
@@ -45,8 +45,8 @@ module _ {ranks : Set} {access n k : ℕ} {left : Set} (h : Left ranks access n 
       least-is : lowest left ≡ 2 * q
       least-is = let (x, d, a, b, t) = least in omega (arith, e, d)
 
-      passed : (i : ℕ) → T (has left i) → ¬ T (has (single (lowest left)) i) → (j : ℕ) × (i ≡ 2 * j) × (k ≤ j) × (j < n) × T (has ranks (2 * j + access))
-          → (j : ℕ) × (i ≡ 2 * j) × (q + 1 ≤ j) × (j < n) × T (has ranks (2 * j + access))
+      passed : (i : ℕ) → T (has left i) → ¬ T (has (single (lowest left)) i) → (j : ℕ) × (i ≡ 2 * j) × (k ≤ j) × (j < n) × T (has ranks (rank access j))
+          → (j : ℕ) × (i ≡ 2 * j) × (q + 1 ≤ j) × (j < n) × T (has ranks (rank access j))
       passed i a b (j, d, l, m, t) =
           let f : lowest left ≤ i = lowest-least left p (h .word) i a in
           let g : ¬ (i ≡ lowest left) = (λ y. b (rw y (single-has (lowest left)))) in
@@ -56,7 +56,7 @@ module _ {ranks : Set} {access n k : ℕ} {left : Set} (h : Left ranks access n 
           later f g = omega (arith, f, g, d, least-is)
 
 -- where nothing is left, no key from k on has an operation
-pub left-none : {ranks : Set} {access n k left : ℕ} → Left ranks access n k left → left ≡ 0 → (j : ℕ) → k ≤ j → j < n → ¬ T (has ranks (2 * j + access))
+pub left-none : {ranks : Set} {access n k left : ℕ} → Left ranks access n k left → left ≡ 0 → (j : ℕ) → k ≤ j → j < n → ¬ T (has ranks (rank access j))
 left-none h e j l m t = has-none (2 * j) (subst (λ (x : Set). T (has x (2 * j))) e (h .all j l m t))
 
 -- ---- where the loop starts
@@ -99,11 +99,16 @@ both-hold a b i = subst (λ (x : Bool). T x ↔ (T (has a i) × T (has b i))) (s
 shifted : (m a i : ℕ) → has (m / 2 ^ a) i ≡ has m (i + a)
 shifted m a i = ap (λ (x : ℕ). eqb (x % 2) 1) (shr-shr m a i) ∙ ap (has m) (add-comm a i)
 
-pub left-starts : (ranks access n : ℕ) → ranks < 2 ^ 64 → n ≤ 16 → {b : Set} → b ≡ below (2 * n) → Left ranks access n 0 (bitAnd (bitAnd (ranks / 2 ^ access) evens) b)
-left-starts ranks access n l s e = subst (λ (x : ℕ). Left ranks access n 0 (bitAnd (bitAnd (ranks / 2 ^ access) evens) x)) (sym e) record {
+rank-is : (access q : ℕ) → access < 2 → rank access q ≡ 2 * q + access
+rank-is zero q l = omega arith
+rank-is (suc zero) q l = refl
+rank-is (suc (suc a)) q l = absurd (omega arith)
+
+pub left-starts : (ranks access n : ℕ) → ranks < 2 ^ 64 → access < 2 → n ≤ 16 → {b : Set} → b ≡ below (2 * n) → Left ranks access n 0 (bitAnd (bitAnd (ranks / 2 ^ access) evens) b)
+left-starts ranks access n l a s e = subst (λ (x : ℕ). Left ranks access n 0 (bitAnd (bitAnd (ranks / 2 ^ access) evens) x)) (sym e) record {
   word = omega (arith, and-le-r (bitAnd (ranks / 2 ^ access) evens) (below (2 * n)), below-word (2 * n) (omega arith));
-  only = λ i t. let (x, b) = both-hold _ _ i .0 t in let (a, c) = both-hold _ _ i .0 x in
+  only = λ i t. let (y, b) = both-hold _ _ i .0 t in let (x, c) = both-hold _ _ i .0 y in
       let z : i ≡ 2 * (i / 2) = omega (arith, odd-missing i c) in
-      (i / 2, z, omega arith, omega (arith, below-has (2 * n) i b), subst (λ (j : ℕ). T (has ranks (j + access))) z (subst T (shifted ranks access i) a));
-  all = λ q _ m t. both-hold _ _ (2 * q) .1 (both-hold _ _ (2 * q) .1 (subst T (sym (shifted ranks access (2 * q))) t, even-there q (omega arith)), has-below (2 * n) (2 * q) (omega arith));
+      (i / 2, z, omega arith, omega (arith, below-has (2 * n) i b), subst (λ (j : ℕ). T (has ranks j)) (ap (λ (j : ℕ). j + access) z ∙ sym (rank-is access (i / 2) a)) (subst T (shifted ranks access i) x));
+  all = λ q _ m t. both-hold _ _ (2 * q) .1 (both-hold _ _ (2 * q) .1 (subst T (sym (shifted ranks access (2 * q))) (subst (λ (j : ℕ). T (has ranks j)) (rank-is access q a) t), even-there q (omega arith)), has-below (2 * n) (2 * q) (omega arith));
 }

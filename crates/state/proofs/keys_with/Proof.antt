@@ -14,7 +14,7 @@ below-requires : tie.Need-below-requires
 below-requires c κs = search needs
 
 returns : tie.Need-returns
-returns c = left-starts _ _ _ (c .before .fits .ranks .fits) (c .before .pre .1) (c .below .ensures)
+returns c = left-starts _ _ _ (c .before .fits .ranks .fits) (c .before .pre .0) (c .before .pre .1) (c .below .ensures)
 
 pub keys-with-spec : {M : Type 1} → statement M
 keys-with-spec = tie.close (tie.spec shr-result mul-below below-requires returns)
