@@ -42,10 +42,9 @@ fn led_by(versions: &[u64], keys: &[u64], views: &[u64], sessions: &[u64], clien
 {
     let base = 16 * client;
     let before = before_of(sessions, client, ranks);
-    let sources = operations::sources(versions, views, base, ranks, n);
-    let over = operations::overwriters(versions, keys, views, base, ranks, n);
+    let reads = operations::sources(versions, keys, views, base, ranks, n);
     let earlier = operations::earlier(keys, ranks, n);
-    Led { before, sources, earlier, over }
+    Led { before, sources: reads.from, earlier, over: reads.over }
 }
 
 // The commit is made: its operations on the versions and keys, its links, and its place in its session and in the log.

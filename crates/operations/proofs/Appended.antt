@@ -1,6 +1,6 @@
 -- A version appended in the arrays is appended in the store; and the reads and then the writes of a commit are its update. Assumes nothing.
-use Prim.Native.Nat.{ℕ, suc, _+_, _-_, _*_, _%_, _^_, _≤_, _<_}
-use mathlib.Core.Path.{_≡_, sym, ap, _∙_, subst}
+use Prim.Native.Nat.{ℕ, suc, _+_, _-_, _*_, _/_, _%_, _^_, _≤_, _<_}
+use mathlib.Core.Path.{_≡_, refl, sym, ap, _∙_, subst}
 use mathlib.Core.Bool.{Bool, true, false}
 use mathlib.Core.Logic.{_⊎_, inl, inr, _≢_}
 use mathlib.Core.List.{List, [], _∷_, _++_}
@@ -12,9 +12,9 @@ use lib.Bits.{bitOr, or-shifted-r}
 use lib.Pow.{pow-pos}
 use lib.ListN.{length, getD, set, length-set, length-append, List·getD-append}
 use lib.Seq.{getD-set-same, getD-set-other, getD-append-seam}
-use Rattle.search.specs.Choose.{choose, when}
+use Rattle.search.specs.Choose.{when}
 use Rattle.search.proofs.Tests.{T?}
-use Rattle.sets.specs.Set.{Set, has, single, below, union, highest}
+use Rattle.sets.specs.Set.{Set, has, single, below, union, highest, lowest}
 use Rattle.sets.proofs.Laws.{has-highest, single-only}
 use Rattle.sets.proofs.Algebra.{insert-below, single-word}
 use Rattle.store.specs.Limits.{maxKeys, maxCommits}
@@ -23,11 +23,13 @@ use Rattle.store.specs.Update.{valueOf, writes, newest, append, update}
 use Rattle.store.proofs.Updated.{note-length, append-none}
 use Rattle.state.specs.Places.{perKey, headPlace, readersPlace, fullPlace, writersPlace, packed}
 use Rattle.state.specs.Keeps.{IsSet, KeepsVersions, KeepsKeys}
+use Rattle.state.specs.Accesses.{Left}
 use Rattle.state.proofs.Sets.{isSet-as, isSet-insert}
+use Rattle.state.proofs.Accesses.{next-key, left-none}
 use Rattle.operations.specs.Given.{Given, Appending}
 use Rattle.operations.specs.Change.{freeBit, free, versionAdded, keyGrown, readsNoted, writesAppended}
 use Rattle.operations.proofs.Noted.{keys-noted}
-use Rattle.operations.proofs.Rows.{VersionAt, Row, WroteIn, KeyRow, rows-of, of-rows, row-other, key-other, Passed, pass-none, pass-key}
+use Rattle.operations.proofs.Rows.{VersionAt, Row, WroteIn, KeyRow, rows-of, of-rows, row-other, key-other, Passed, pass-none, pass-key, pass-skip}
 
 -- ---- the next version of a key
 
@@ -105,34 +107,30 @@ module _ (before : List ℕ) (k : Key) (x : Value) (t : CommitNumber) (vs : List
           let q : i ≡ length vs = omega (arith, longer vs (new x t)) in
           inl (sym e ∙ ap (λ (j : ℕ). getD (vs ++ (new x t ∷ [])) j openingVersion .writer) q ∙ ap (λ (v : Version). v .writer) (getD-append-seam vs (new x t) [] openingVersion))
 
--- ---- where the key is written
+-- ---- the other keys stay
 
-module _ (before : List ℕ) (k : Key) (x : Value) (t : CommitNumber) (b : k < maxKeys) where
-  appended-row : (vs : List Version) → length vs ≤ maxCommits → x < 2 ^ 32 → (w : Bool) → Row before k vs
-      → Row (choose w (versionAdded before (headPlace k (length vs)) (packed x t)) before) k (append (when w x) t vs)
-  unfolding choose when append
-  appended-row vs l f true r = version-added before k x t vs b l f r
-  appended-row vs l f false r = r
-
-  appended-other : (i : VersionNumber) → i < perKey → (w : Bool) → (q : Key) → q ≢ k → q < maxKeys → (vs : List Version) → Row before q vs
-      → Row (choose w (versionAdded before (headPlace k i) (packed x t)) before) q vs
-  unfolding choose
-  appended-other i l true q n m vs r =
+module _ (before : List ℕ) (k : Key) (b : k < maxKeys) (t : CommitNumber) (q : Key) (n : q ≢ k) (m : q < maxKeys) (vs : List Version) where
+  appended-other : (x : Value) (i : VersionNumber) → i < perKey → Row before q vs → Row (versionAdded before (headPlace k i) (packed x t)) q vs
+  appended-other x i l r =
       row-other (set before (headPlace k i) (packed x t)) (readersPlace k i) 0 q (λ j o. (λ e. omega arith, λ e. n (omega arith)))
       (row-other before (headPlace k i) (packed x t) q (λ j o. (λ e. n (omega arith), λ e. omega arith)) r)
-  appended-other i l false q n m vs r = r
 
-  grown-key : (vs : List Version) (w : Bool) → KeyRow before k vs → KeyRow (choose w (keyGrown before k (single (length vs)) t) before) k (append (when w x) t vs)
-  unfolding choose when append
-  grown-key vs true r = key-grown before k x t vs b r
-  grown-key vs false r = r
-
-  grown-other : (bit : Set) (w : Bool) → (q : Key) → q ≢ k → q < maxKeys → (vs : List Version) → KeyRow before q vs → KeyRow (choose w (keyGrown before k bit t) before) q vs
-  unfolding choose
-  grown-other bit true q n m vs r =
+  grown-other : (bit : Set) → KeyRow before q vs → KeyRow (keyGrown before k bit t) q vs
+  grown-other bit r =
       key-other (set before (fullPlace k) (union (getD before (fullPlace k) 0) bit)) (writersPlace k) _ q (λ e. omega arith) (λ e. n (omega arith))
       (key-other before (fullPlace k) _ q n (λ e. omega arith) r)
-  grown-other bit false q n m vs r = r
+
+-- ---- where the key is written, and where it is not
+
+appended-written : (b : Bool) → T b → (x : Value) (t : CommitNumber) (vs : List Version) → append (when b x) t vs ≡ (vs ++ (new x t ∷ []))
+unfolding when append
+appended-written true h x t vs = refl
+appended-written false h x t vs = absurd h
+
+appended-unwritten : (b : Bool) → ¬ T b → (x : Value) (t : CommitNumber) (vs : List Version) → append (when b x) t vs ≡ vs
+unfolding when append
+appended-unwritten true h x t vs = absurd (h tt)
+appended-unwritten false h x t vs = refl
 
 -- ---- the whole loop
 
@@ -152,35 +150,54 @@ module _ {s : Store} {c : Commit} {versions keys values : List ℕ} {ranks n : �
     });
   }
 
-  pub write-appended : n ≤ maxKeys → (k : ℕ) (vs ks : List ℕ) {vs′ ks′ : List ℕ} → k < n
-      → vs′ ≡ choose (has ranks (2 * k + 1)) (versionAdded vs (headPlace k (free ks k)) (bitOr (getD values (2 * k + 1) 0) (t * 2 ^ 32))) vs
-      → ks′ ≡ choose (has ranks (2 * k + 1)) (keyGrown ks k (freeBit ks k) t) ks
-      → WritesPassed s c t n k vs ks → WritesPassed s c t n (k + 1) vs′ ks′
-  write-appended small k vs ks {vs′} {ks′} l e d p = record {
-    in-versions = subst (λ (a : List ℕ). Passed Row (s .versions) (writesAppended s c t .versions) n (k + 1) a) (sym (rw (number, packed-or x t f) at e))
-        (pass-key Row (s .versions) (writesAppended s c t .versions) n k vs _ l (p .in-versions)
-        (λ q m o. appended-other vs k x t (omega arith) (count s k) (omega (arith, g .room-left k)) (has ranks (2 * k + 1)) q m (omega arith))
-        (λ r. rw (g .operations .writes k) (appended-row vs k x t (omega arith) (s .versions k) (g .room-left k) f (has ranks (2 * k + 1)) r)));
-    in-keys = subst (λ (a : List ℕ). Passed KeyRow (s .versions) (writesAppended s c t .versions) n (k + 1) a) (sym (rw bit at d))
-        (pass-key KeyRow (s .versions) (writesAppended s c t .versions) n k ks _ l (p .in-keys)
-        (λ q m o. grown-other ks k x t (omega arith) (single (count s k)) (has ranks (2 * k + 1)) q m (omega arith))
-        (λ r. rw (g .operations .writes k) (grown-key ks k x t (omega arith) (s .versions k) (has ranks (2 * k + 1)) r)));
+  -- keys that are not written are passed at once
+  skipped : (k q : ℕ) (vs ks : List ℕ) → k ≤ q → q ≤ n → ((j : ℕ) → k ≤ j → j < q → ¬ T (has ranks (2 * j + 1))) → WritesPassed s c t n k vs ks → WritesPassed s c t n q vs ks
+  skipped k q vs ks l m none p = record {
+    in-versions = pass-skip Row (s .versions) (writesAppended s c t .versions) n k q vs l m stays (p .in-versions);
+    in-keys = pass-skip KeyRow (s .versions) (writesAppended s c t .versions) n k q ks l m stays (p .in-keys);
   }
     where
-      x : ℕ
-      x = getD values (2 * k + 1) 0
+      stays : (j : Key) → k ≤ j → j < q → writesAppended s c t .versions j ≡ s .versions j
+      stays j x y = rw (g .operations .writes j) (appended-unwritten (has ranks (2 * j + 1)) (none j x y) _ t (s .versions j))
 
-      f : x < 2 ^ 32
-      f = g .operations .value-fits (2 * k + 1)
+  module _ {k : ℕ} {left : Set} (h : Left ranks 1 n k left) (small : n ≤ maxKeys) (pos : 0 < left) {q : ℕ} (d : q ≡ lowest left / 2) (vs ks : List ℕ) (p : WritesPassed s c t n k vs ks) where
+    before : WritesPassed s c t n q vs ks
+    before = let (b, l, r, none) = next-key h pos d in skipped k q vs ks b (omega arith) none p
 
-      here : KeyRow ks k (s .versions k)
-      here = p .in-keys .left k (omega arith) l
+    l : q < n
+    l = next-key h pos d .1
 
-      bit : freeBit ks k ≡ single (count s k)
-      bit = free-bit ks k (count s k) (g .room-left k) (here .full)
+    abbrev x : ℕ
+    x = getD values (2 * q + 1) 0
 
-      number : free ks k ≡ count s k
-      number = free-number ks k (count s k) (g .room-left k) (here .full)
+    f : x < 2 ^ 32
+    f = g .operations .value-fits (2 * q + 1)
+
+    here : KeyRow ks q (s .versions q)
+    here = before .in-keys .left q (omega arith) l
+
+    bit : freeBit ks q ≡ single (count s q)
+    bit = free-bit ks q (count s q) (g .room-left q) (here .full)
+
+    number : free ks q ≡ count s q
+    number = free-number ks q (count s q) (g .room-left q) (here .full)
+
+    -- the versions of the key afterwards
+    grows : writesAppended s c t .versions q ≡ (s .versions q ++ (new x t ∷ []))
+    grows = rw (g .operations .writes q) (appended-written (has ranks (2 * q + 1)) (next-key h pos d .2) x t (s .versions q))
+
+    pub write-appended : {vs′ ks′ : List ℕ} → vs′ ≡ versionAdded vs (headPlace q (free ks q)) (bitOr x (t * 2 ^ 32)) → ks′ ≡ keyGrown ks q (freeBit ks q) t
+        → WritesPassed s c t n (q + 1) vs′ ks′
+    write-appended e z = record {
+      in-versions = subst (λ (a : List ℕ). Passed Row (s .versions) (writesAppended s c t .versions) n (q + 1) a) (sym (rw (number, packed-or x t f) at e))
+          (pass-key Row (s .versions) (writesAppended s c t .versions) n q vs _ l (before .in-versions)
+          (λ j m o w. appended-other vs q (omega (arith, l)) t j m (omega arith) w x (count s q) (omega (arith, g .room-left q)))
+          (λ r. rw grows (version-added vs q x t (s .versions q) (omega (arith, l)) (g .room-left q) f r)));
+      in-keys = subst (λ (a : List ℕ). Passed KeyRow (s .versions) (writesAppended s c t .versions) n (q + 1) a) (sym (rw bit at z))
+          (pass-key KeyRow (s .versions) (writesAppended s c t .versions) n q ks _ l (before .in-keys)
+          (λ j m o w. grown-other ks q (omega (arith, l)) t j m (omega arith) w (single (count s q)))
+          (λ r. rw grows (key-grown ks q x t (s .versions q) (omega (arith, l)) r)));
+    }
 
   -- a key that the store does not have gains nothing
   only-old : (k i : ℕ) → i < count (writesAppended s c t) k → k < n
@@ -190,16 +207,17 @@ module _ {s : Store} {c : Commit} {versions keys values : List ℕ} {ranks n : �
       go (yes w) = omega (arith, g .write-keys k w, g .keys-are)
       go (no m) = omega (arith, g .only-keys k i (subst (λ (vs : List Version). i < length vs) (append-none (valueOf write (c .operations) k) t (s .versions k) m) l), g .keys-are)
 
-  pub writes-appended : (k : ℕ) (vs ks : List ℕ) → n ≤ k → length vs ≡ 2 * (perKey * maxKeys) → length ks ≡ 2 * maxKeys → WritesPassed s c t n k vs ks
-      → KeepsVersions (writesAppended s c t) vs × KeepsKeys (writesAppended s c t) ks
-  writes-appended k vs ks l room room′ p = (
-    of-rows (writesAppended s c t) vs n room only-old (λ q m. p .in-versions .done q (omega arith)),
-    record {
-      room = room′;
-      full = λ q m. p .in-keys .done q (omega (arith, g .keys-are)) .full;
-      writers = λ q m. p .in-keys .done q (omega (arith, g .keys-are)) .writers;
-    },
-  )
+  pub writes-appended : {k : ℕ} {left : Set} → Left ranks 1 n k left → (vs ks : List ℕ) → k ≤ n → left ≡ 0 → length vs ≡ 2 * (perKey * maxKeys) → length ks ≡ 2 * maxKeys
+      → WritesPassed s c t n k vs ks → KeepsVersions (writesAppended s c t) vs × KeepsKeys (writesAppended s c t) ks
+  writes-appended {k} h vs ks l e room room′ p =
+      let w : WritesPassed s c t n n vs ks = skipped k n vs ks l (omega arith) (λ j x y. left-none h e j x y) p in (
+        of-rows (writesAppended s c t) vs n room only-old (λ q m. w .in-versions .done q m),
+        record {
+          room = room′;
+          full = λ q m. w .in-keys .done q (omega (arith, g .keys-are)) .full;
+          writers = λ q m. w .in-keys .done q (omega (arith, g .keys-are)) .writers;
+        },
+      )
 
 -- ---- the whole commit
 

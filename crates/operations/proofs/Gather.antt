@@ -1,9 +1,9 @@
 -- A set that is gathered key by key: the loop joins to it what each key adds. Assumes nothing.
-use Prim.Native.Nat.{ℕ, _+_, _<_}
+use Prim.Native.Nat.{ℕ, _+_, _≤_, _<_}
 use mathlib.Core.Path.{_≡_, sym, subst}
 use mathlib.Core.Logic.{_⊎_, inl, inr}
 use native.Mathlib.Omega.{arith}
-use native.Mathlib.Decide.{ℕ-discrete}
+use native.Mathlib.Decide.{ℕ-discrete, decLt}
 use Rattle.sets.specs.Set.{Set, union}
 use Rattle.state.specs.Keeps.{IsSet}
 use Rattle.state.proofs.Sets.{isSet-as, isSet-none, isSet-union}
@@ -29,3 +29,11 @@ module _ (P : ℕ → ℕ → Type 0) where
           go : Dec (q ≡ k) → UpTo P k t ⊎ P k t
           go (yes e) = inr (subst (λ (i : ℕ). P i t) e x)
           go (no n) = inl (q, omega arith, x)
+
+  -- keys that add nothing are passed at once
+  pub gather-skip : (k q : ℕ) (found : Set) → k ≤ q → ((j : ℕ) → k ≤ j → j < q → (t : ℕ) → ¬ P j t) → IsSet found (UpTo P k) → IsSet found (UpTo P q)
+  gather-skip k q found l none h = isSet-as found (λ t. (λ (j, m, x). (j, omega arith, x), λ (j, m, x). out t j m x (decLt j k))) h
+    where
+      out : (t j : ℕ) → j < q → P j t → Dec (j < k) → UpTo P k t
+      out t j m x (yes y) = (j, y, x)
+      out t j m x (no y) = absurd (none j (omega arith) m t x)

@@ -1,26 +1,29 @@
 -- A read noted in the arrays is noted in the store. Assumes nothing.
-use Prim.Native.Nat.{ℕ, _+_, _*_, _≤_, _<_}
-use mathlib.Core.Path.{_≡_, sym, ap, _∙_, subst}
+use Prim.Native.Nat.{ℕ, _+_, _*_, _/_, _≤_, _<_}
+use mathlib.Core.Path.{_≡_, refl, sym, ap, _∙_, subst}
 use mathlib.Core.Bool.{Bool, true, false}
 use mathlib.Core.Logic.{_≢_}
 use mathlib.Core.List.{List}
 use native.Mathlib.Omega.{arith}
 use native.Mathlib.Decide.{ℕ-discrete}
+use lib.Dec.{T}
 use lib.ListN.{length, getD, set, length-set}
 use lib.Seq.{getD-set-same, getD-set-other}
-use Rattle.search.specs.Choose.{choose, when}
-use Rattle.sets.specs.Set.{has, insert, below, highest}
+use Rattle.search.specs.Choose.{when}
+use Rattle.sets.specs.Set.{Set, has, insert, below, highest, lowest}
 use Rattle.store.specs.Limits.{maxKeys}
 use Rattle.store.specs.Store.{Key, VersionNumber, CommitNumber, Value, Version, openingVersion, View, Store, count, version, read, Commit}
 use Rattle.store.specs.Update.{valueOf, newest, readBy, noteRead}
 use Rattle.store.proofs.Updated.{Wrote, note-length, note-writer}
 use Rattle.state.specs.Places.{perKey, headPlace, readersPlace}
 use Rattle.state.specs.Keeps.{KeepsVersions, KeepsKeys}
+use Rattle.state.specs.Accesses.{Left}
 use Rattle.state.proofs.Sets.{isSet-as}
+use Rattle.state.proofs.Accesses.{next-key, left-none}
 use Rattle.operations.specs.Given.{Given}
 use Rattle.operations.specs.Change.{readerAdded, readsNoted}
 use Rattle.operations.proofs.Reading.{seen-exists}
-use Rattle.operations.proofs.Rows.{VersionAt, Row, rows-of, of-rows, row-other, Passed, pass-none, pass-key}
+use Rattle.operations.proofs.Rows.{VersionAt, Row, rows-of, of-rows, row-other, Passed, pass-none, pass-key, pass-skip}
 
 -- one version of a key gains a reader
 module _ (before : List ℕ) (k : Key) (v : VersionNumber) (t : CommitNumber) (vs : List Version) (b : k < maxKeys) (l : v < length vs) (r : Row before k vs) where
@@ -52,18 +55,20 @@ module _ (before : List ℕ) (k : Key) (v : VersionNumber) (t : CommitNumber) (v
             fits = o .fits;
           }
 
--- where the key is read
-noted-row : (before : List ℕ) (k : Key) (v : VersionNumber) (t : CommitNumber) (vs : List Version) → k < maxKeys → v < length vs → (w : Bool) (x : Value)
-    → Row before k vs → Row (choose w (readerAdded before (readersPlace k v) t) before) k (noteRead (when w x) v t vs)
-unfolding choose when noteRead
-noted-row before k v t vs b l true x r = reader-added before k v t vs b l r
-noted-row before k v t vs b l false x r = r
+noted-other : (before : List ℕ) (k : Key) (v : VersionNumber) (t : CommitNumber) → k < maxKeys → v < perKey
+    → (q : Key) → q ≢ k → q < maxKeys → (vs : List Version) → Row before q vs → Row (readerAdded before (readersPlace k v) t) q vs
+noted-other before k v t b l q n m vs r = row-other before (readersPlace k v) _ q (λ i o. (λ e. omega arith, λ e. n (omega arith))) r
 
-noted-other : (before : List ℕ) (k : Key) (v : VersionNumber) (t : CommitNumber) → k < maxKeys → v < perKey → (w : Bool)
-    → (q : Key) → q ≢ k → q < maxKeys → (vs : List Version) → Row before q vs → Row (choose w (readerAdded before (readersPlace k v) t) before) q vs
-unfolding choose
-noted-other before k v t b l true q n m vs r = row-other before (readersPlace k v) _ q (λ i o. (λ e. omega arith, λ e. n (omega arith))) r
-noted-other before k v t b l false q n m vs r = r
+-- where the key is read, and where it is not
+noted-read : (b : Bool) → T b → (x : Value) (v : VersionNumber) (t : CommitNumber) (vs : List Version) → noteRead (when b x) v t vs ≡ set vs v (readBy t (getD vs v openingVersion))
+unfolding when noteRead
+noted-read true h x v t vs = refl
+noted-read false h x v t vs = absurd h
+
+noted-unread : (b : Bool) → ¬ T b → (x : Value) (v : VersionNumber) (t : CommitNumber) (vs : List Version) → noteRead (when b x) v t vs ≡ vs
+unfolding when noteRead
+noted-unread true h x v t vs = absurd (h tt)
+noted-unread false h x v t vs = refl
 
 -- ---- the whole loop
 
@@ -78,22 +83,30 @@ module _ {s : Store} {u : View} {c : Commit} {versions views : List ℕ} {base :
       pass-none Row (s .versions) (readsNoted s u c t .versions) n versions
       (λ q l. rows-of (g .in-versions) (λ k. omega (arith, g .sound .few k, g .room-left)) q)
 
-  pub read-noted : n ≤ maxKeys → (k : ℕ) (before : List ℕ) {after : List ℕ} → k < n
-      → after ≡ choose (has ranks (2 * k)) (readerAdded before (readersPlace k (highest (getD views (base + k) 0))) t) before
-      → ReadsPassed s u c t n k before → ReadsPassed s u c t n (k + 1) after
-  read-noted small k before {after} l e p =
-      let x : newest u k < count s k = seen-exists g k l in
-      let y : count s k ≤ perKey = omega (arith, g .sound .few k, g .room-left) in
-      subst (λ (a : List ℕ). ReadsPassed s u c t n (k + 1) a) (sym (rw (g .row k l) at e))
-      (pass-key Row (s .versions) (readsNoted s u c t .versions) n k before _ l p
-      (λ q m o vs r. noted-other before k (newest u k) t (omega arith) (omega arith) (has ranks (2 * k)) q m (omega arith) vs r)
-      (λ r. rw (g .operations .reads k) (noted-row before k (newest u k) t (s .versions k) (omega arith) x (has ranks (2 * k)) _ r)))
+  -- keys that are not read are passed at once
+  skipped : (k q : ℕ) (a : List ℕ) → k ≤ q → q ≤ n → ((j : ℕ) → k ≤ j → j < q → ¬ T (has ranks (2 * j))) → ReadsPassed s u c t n k a → ReadsPassed s u c t n q a
+  skipped k q a l m none =
+      pass-skip Row (s .versions) (readsNoted s u c t .versions) n k q a l m
+      (λ j x y. rw (g .operations .reads j) (noted-unread (has ranks (2 * j)) (none j x y) _ (newest u j) t (s .versions j)))
 
-  pub reads-noted : (k : ℕ) (a : List ℕ) → n ≤ k → length a ≡ 2 * (perKey * maxKeys) → ReadsPassed s u c t n k a → KeepsVersions (readsNoted s u c t) a
-  reads-noted k a l room p =
-      of-rows (readsNoted s u c t) a n room
-      (λ q i m. omega (arith, g .sound .only-keys q i (rw (note-length (valueOf read (c .operations) q) (newest u q) t (s .versions q)) at m), g .keys-are))
-      (λ q m. p .done q (omega arith))
+  module _ {k : ℕ} {left : Set} (h : Left ranks 0 n k left) where
+    pub read-noted : n ≤ maxKeys → 0 < left → {q : ℕ} → q ≡ lowest left / 2 → (before : List ℕ) {after : List ℕ}
+        → after ≡ readerAdded before (readersPlace q (highest (getD views (base + q) 0))) t
+        → ReadsPassed s u c t n k before → ReadsPassed s u c t n (q + 1) after
+    read-noted small a {q} d before {after} e p =
+        let (b, l, r, none) = next-key h a d in
+        let x : newest u q < count s q = seen-exists g q l in
+        let y : count s q ≤ perKey = omega (arith, g .sound .few q, g .room-left) in
+        subst (λ (z : List ℕ). ReadsPassed s u c t n (q + 1) z) (sym (rw (g .row q l) at e))
+        (pass-key Row (s .versions) (readsNoted s u c t .versions) n q before _ l (skipped k q before b (omega arith) none p)
+        (λ j m o vs. noted-other before q (newest u q) t (omega arith) (omega arith) j m (omega arith) vs)
+        (λ w. rw (g .operations .reads q, noted-read (has ranks (2 * q)) r (getD values (2 * q) 0) (newest u q) t (s .versions q)) (reader-added before q (newest u q) t (s .versions q) (omega arith) x w)))
+
+    pub reads-noted : (a : List ℕ) → k ≤ n → left ≡ 0 → length a ≡ 2 * (perKey * maxKeys) → ReadsPassed s u c t n k a → KeepsVersions (readsNoted s u c t) a
+    reads-noted a l e room p =
+        of-rows (readsNoted s u c t) a n room
+        (λ q i m. omega (arith, g .sound .only-keys q i (rw (note-length (valueOf read (c .operations) q) (newest u q) t (s .versions q)) at m), g .keys-are))
+        (λ q m. skipped k n a l (omega arith) (λ j x y. left-none h e j x y) p .done q m)
 
   -- versions keep their writers
   pub keys-noted : {keys : List ℕ} → KeepsKeys s keys → KeepsKeys (readsNoted s u c t) keys

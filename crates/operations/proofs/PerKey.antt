@@ -2,15 +2,14 @@
 -- Assumes nothing.
 use Prim.Native.Nat.{ℕ, _+_, _*_, _/_, _%_, _^_, _≤_, _<_}
 use mathlib.Core.Path.{_≡_, refl, sym, ap, _∙_, subst}
-use mathlib.Core.Bool.{true, false}
 use mathlib.Core.Logic.{_↔_}
 use mathlib.Core.List.{List}
 use native.Mathlib.Omega.{arith}
 use native.Mathlib.Decide.{decLt}
 use lib.Dec.{T}
 use lib.ListN.{getD}
-use Rattle.search.proofs.Tests.{both, true-T}
-use Rattle.sets.specs.Set.{Set, has, single, below, without}
+use Rattle.search.proofs.Tests.{both}
+use Rattle.sets.specs.Set.{Set, has, single, below, union, without, lowest}
 use Rattle.sets.proofs.Laws.{has-below, below-has}
 use Rattle.store.specs.Store.{Key, View, Store, version, Commit}
 use Rattle.store.specs.Update.{reads, writes, newest}
@@ -19,27 +18,28 @@ use Rattle.growth.proofs.Ordered.{Ordered}
 use Rattle.growth.proofs.Links.{FromRead, FromWrite, ToLater}
 use Rattle.state.specs.Places.{writersPlace}
 use Rattle.state.specs.Keeps.{IsSet, KeepsKeys, WroteKey}
-use Rattle.state.proofs.Sets.{isSet-as, isSet-none, isSet-single, isSet-without}
+use Rattle.state.specs.Accesses.{Left}
+use Rattle.state.proofs.Sets.{isSet-as, isSet-single, isSet-without}
+use Rattle.state.proofs.Accesses.{next-key, left-none}
 use Rattle.operations.specs.Given.{Given, Writing}
 use Rattle.operations.specs.PerKey.{readAt, laterAt, writtenAt}
-use Rattle.operations.proofs.Gather.{UpTo}
-use Rattle.operations.proofs.Reading.{false-T, reads-rank, writes-rank, seen-exists, headSeen, writer-seen}
+use Rattle.operations.proofs.Gather.{UpTo, gather-more, gather-skip}
+use Rattle.operations.proofs.Reading.{reads-rank, writes-rank, seen-exists}
 
 module _ {s : Store} {u : View} {c : Commit} {versions views : List ℕ} {base : ℕ} {values : List ℕ} {ranks n : ℕ}
-    (g : Given s u c versions views base values ranks n) (k : Key) (l : k < n) where
-  pub source-unread : has ranks (2 * k) ≡ false → IsSet 0 (readAt s u c k)
-  source-unread e = isSet-none (λ t (r, x). false-T _ (reads-rank (g .operations) k ∙ e) r)
+    (g : Given s u c versions views base values ranks n) where
+  pub unread : (k : Key) → ¬ T (has ranks (2 * k)) → ¬ T (reads c k)
+  unread k m r = m (subst T (reads-rank (g .operations) k) r)
 
-  pub source-read : has ranks (2 * k) ≡ true → {h w : ℕ} → h ≡ headSeen g k l → w ≡ h / 2 ^ 32 % 64 → {m : Set} → m ≡ single w → IsSet m (readAt s u c k)
-  source-read e {h} {w} q p {m} r =
+module _ {s : Store} {u : View} {c : Commit} {versions views : List ℕ} {base : ℕ} {values : List ℕ} {ranks n : ℕ}
+    (g : Given s u c versions views base values ranks n) (k : Key) (l : k < n) (h : T (has ranks (2 * k))) {w : ℕ} (is : w ≡ version s k (newest u k) .writer) where
+  is-read : T (reads c k)
+  is-read = subst T (sym (reads-rank (g .operations) k)) h
+
+  pub source-read : {m : Set} → m ≡ single w → IsSet m (readAt s u c k)
+  source-read {m} r =
       subst (λ (x : ℕ). IsSet x (readAt s u c k)) (sym (r ∙ ap single is))
-      (isSet-as (single (version s k (newest u k) .writer)) (λ t. (λ x. (true-T _ (reads-rank (g .operations) k ∙ e), sym x), λ (_, x). sym x)) (isSet-single _))
-    where
-      is : w ≡ version s k (newest u k) .writer
-      is = p ∙ ap (λ (x : ℕ). x / 2 ^ 32 % 64) q ∙ writer-seen g k l
-
-  pub later-unread : has ranks (2 * k) ≡ false → IsSet 0 (laterAt s u c k)
-  later-unread e = isSet-none (λ t (r, x). false-T _ (reads-rank (g .operations) k ∙ e) r)
+      (isSet-as (single (version s k (newest u k) .writer)) (λ t. (λ x. (is-read, sym x), λ (_, x). sym x)) (isSet-single _))
 
   -- the writers of a key that are above the writer of one of its versions are those of its later versions
   module _ (o : Ordered s) where
@@ -60,38 +60,47 @@ module _ {s : Store} {u : View} {c : Commit} {versions views : List ℕ} {base :
             let z : version s k (newest u k) .writer ≡ b = subst (λ (i : ℕ). version s k i .writer ≡ b) e (w .1) in
             absurd (n (omega arith))
 
-    pub later-read : {keys : List ℕ} → KeepsKeys s keys → has ranks (2 * k) ≡ true → {h w : ℕ} → h ≡ headSeen g k l → w ≡ h / 2 ^ 32 % 64
-        → {f m : Set} → f ≡ below (w + 1) → m ≡ without (getD keys (writersPlace k) 0) f → IsSet m (laterAt s u c k)
-    later-read {keys} kept e {h} {w} q p {f} {m} a r =
+    pub later-read : {keys : List ℕ} → KeepsKeys s keys → {f m : Set} → f ≡ below (w + 1) → m ≡ without (getD keys (writersPlace k) 0) f → IsSet m (laterAt s u c k)
+    later-read {keys} kept {f} {m} a r =
         subst (λ (x : ℕ). IsSet x (laterAt s u c k)) (sym (r ∙ ap (without (getD keys (writersPlace k) 0)) (a ∙ ap (λ (x : ℕ). below (x + 1)) is)))
-        (isSet-as _ (λ t. both (above-later t) (λ x. (true-T _ (reads-rank (g .operations) k ∙ e), x), λ (_, x). x))
+        (isSet-as _ (λ t. both (above-later t) (λ x. (is-read, x), λ (_, x). x))
         (isSet-without (getD keys (writersPlace k) 0) (below (version s k (newest u k) .writer + 1)) (kept .writers k (omega (arith, g .keys-are)))
         (λ t. (below-has _ t, has-below _ t))))
-      where
-        is : w ≡ version s k (newest u k) .writer
-        is = p ∙ ap (λ (x : ℕ). x / 2 ^ 32 % 64) q ∙ writer-seen g k l
 
--- ---- all keys together
+-- ---- a turn of the loop, and all keys together
 
 module _ {s : Store} {u : View} {c : Commit} {versions views : List ℕ} {base : ℕ} {values : List ℕ} {ranks n : ℕ}
-    (g : Given s u c versions views base values ranks n) (k : ℕ) (l : n ≤ k) (found : Set) where
-  reads-below : (q : Key) → T (reads c q) → q < k
-  reads-below q r = omega (arith, g .fits .read-keys q r, g .keys-are)
+    (g : Given s u c versions views base values ranks n) {k : ℕ} {left : Set} (h : Left ranks 0 n k left) where
+  -- what the keys that are read add, up to the key of the turn
+  module _ (P : Key → ℕ → Type 0) (only : (q t : ℕ) → P q t → T (reads c q)) (found : Set) (p : IsSet found (UpTo P k)) where
+    pub reads-turn : 0 < left → {q : ℕ} → q ≡ lowest left / 2 → (m : Set) {next : Set} → next ≡ union found m → IsSet m (P q) → IsSet next (UpTo P (q + 1))
+    reads-turn a {q} e m z x =
+        let (b, _, _, none) = next-key h a e in
+        gather-more P q found m z (gather-skip P k q found b (λ j l o t y. unread g j (none j l o) (only j t y)) p) x
 
-  pub all-sources : IsSet found (UpTo (readAt s u c) k) → IsSet found (FromRead s u c)
-  all-sources = isSet-as found (λ t. (λ (q, _, (r, x)). (q, r, x), λ (q, r, x). (q, reads-below q r, (r, x))))
+    pub reads-all : k ≤ n → left ≡ 0 → IsSet found (λ t. (q : Key) × P q t)
+    reads-all l e =
+        isSet-as found (λ t. (λ (q, _, x). (q, x), λ (q, x). (q, omega (arith, g .fits .read-keys q (only q t x), g .keys-are), x)))
+        (gather-skip P k n found l (λ j a b t y. unread g j (left-none h e j a b) (only j t y)) p)
 
-  pub all-later : IsSet found (UpTo (laterAt s u c) k) → IsSet found (ToLater s u c)
-  all-later = isSet-as found (λ t. (λ (q, _, (r, x)). (q, r, x), λ (q, r, x). (q, reads-below q r, (r, x))))
+  pub all-sources : k ≤ n → left ≡ 0 → (found : Set) → IsSet found (UpTo (readAt s u c) k) → IsSet found (FromRead s u c)
+  all-sources l e found p = isSet-as found (λ t. (λ (q, (r, x)). (q, r, x), λ (q, r, x). (q, (r, x)))) (reads-all (readAt s u c) (λ q t x. x .0) found p l e)
 
-module _ {s : Store} {c : Commit} {keys : List ℕ} {values : List ℕ} {ranks n : ℕ} (g : Writing s c keys values ranks n) where
-  pub earlier-unwritten : (k : Key) → has ranks (2 * k + 1) ≡ false → IsSet 0 (writtenAt s c k)
-  earlier-unwritten k e = isSet-none (λ t (r, x). false-T _ (writes-rank (g .operations) k ∙ e) r)
+  pub all-later : k ≤ n → left ≡ 0 → (found : Set) → IsSet found (UpTo (laterAt s u c) k) → IsSet found (ToLater s u c)
+  all-later l e found p = isSet-as found (λ t. (λ (q, (r, x)). (q, r, x), λ (q, r, x). (q, (r, x)))) (reads-all (laterAt s u c) (λ q t x. x .0) found p l e)
 
-  pub earlier-written : (k : Key) → k < n → has ranks (2 * k + 1) ≡ true → IsSet (getD keys (writersPlace k) 0) (writtenAt s c k)
-  earlier-written k l e =
-      isSet-as _ (λ t. (λ x. (true-T _ (writes-rank (g .operations) k ∙ e), x), λ (_, x). x)) (g .in-keys .writers k (omega (arith, g .keys-are)))
+module _ {s : Store} {c : Commit} {keys : List ℕ} {values : List ℕ} {ranks n : ℕ} (g : Writing s c keys values ranks n) {k : ℕ} {left : Set} (h : Left ranks 1 n k left) (found : Set)
+    (p : IsSet found (UpTo (writtenAt s c) k)) where
+  none-written : (q : Key) → k ≤ q → ((j : ℕ) → k ≤ j → j < q → ¬ T (has ranks (2 * j + 1))) → IsSet found (UpTo (writtenAt s c) q)
+  none-written q l none = gather-skip (writtenAt s c) k q found l (λ j a b t y. none j a b (subst T (writes-rank (g .operations) j) (y .0))) p
 
-  pub all-earlier : (k : ℕ) → n ≤ k → (found : Set) → IsSet found (UpTo (writtenAt s c) k) → IsSet found (FromWrite s c)
-  all-earlier k l found =
+  pub writes-turn : 0 < left → {q : ℕ} → q ≡ lowest left / 2 → {next : Set} → next ≡ union found (getD keys (writersPlace q) 0) → IsSet next (UpTo (writtenAt s c) (q + 1))
+  writes-turn a {q} e z =
+      let (b, l, t, none) = next-key h a e in
+      gather-more (writtenAt s c) q found _ z (none-written q b none)
+      (isSet-as _ (λ t′. (λ x. (subst T (sym (writes-rank (g .operations) q)) t, x), λ (_, x). x)) (g .in-keys .writers q (omega (arith, l, g .keys-are))))
+
+  pub all-earlier : k ≤ n → left ≡ 0 → IsSet found (FromWrite s c)
+  all-earlier l e =
       isSet-as found (λ t. (λ (q, _, (r, x)). (q, r, x), λ (q, r, x). (q, omega (arith, g .fits .write-keys q r, g .keys-are), (r, x))))
+      (none-written n l (λ j a b. left-none h e j a b))

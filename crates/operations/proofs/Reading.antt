@@ -1,16 +1,17 @@
 -- The version that a read sees: what the arrays say of it, and when the read is wrong. Assumes nothing.
 use Prim.Native.Nat.{ℕ, _+_, _-_, _*_, _/_, _%_, _^_, _≤_, _<_}
-use mathlib.Core.Path.{_≡_, refl, sym, ap, _∙_}
+use mathlib.Core.Path.{_≡_, refl, sym, ap, _∙_, subst}
 use mathlib.Core.Bool.{Bool, true, false, _&&_, not}
 use mathlib.Core.Option.{some, none}
 use mathlib.Core.List.{List}
 use native.Mathlib.Omega.{arith}
+use native.Mathlib.Decide.{ℕ-discrete, decLt}
 use lib.Dec.{T, eqb}
 use lib.Pow.{pow-pos}
 use lib.Count.{leadingZeros}
 use lib.ListN.{getD}
 use Rattle.search.specs.Choose.{isSome, mapSome, when}
-use Rattle.search.proofs.Tests.{true-T}
+use Rattle.search.proofs.Tests.{true-T, T-true, T-false, and-is, same}
 use Rattle.search.proofs.Search.{least-found, least-none}
 use Rattle.sets.specs.Set.{Set, has, highest}
 use Rattle.sets.proofs.Laws.{has-large, has-highest}
@@ -91,14 +92,14 @@ module _ {s : Store} {u : View} {c : Commit} {versions views : List ℕ} {base :
 
     -- ---- wrong reads
 
-    pub wrong-is : wrongAt s u c k ≡ (has ranks (2 * k) && not (eqb (getD values (2 * k) 0) (headSeen % 2 ^ 32)))
+    wrong-is : wrongAt s u c k ≡ (has ranks (2 * k) && not (eqb (getD values (2 * k) 0) (headSeen % 2 ^ 32)))
     wrong-is = rw (g .operations .reads k, differs-when (has ranks (2 * k)) (getD values (2 * k) 0) (version s k (newest u k)), value-seen)
 
-    pub wrong-unread : has ranks (2 * k) ≡ false → false ≡ wrongAt s u c k
-    wrong-unread e = rw (wrong-is, e)
+    pub wrong-unread : ¬ T (has ranks (2 * k)) → ¬ T (wrongAt s u c k)
+    wrong-unread n t = n (and-is (has ranks (2 * k)) _ same same .0 (subst T wrong-is t) .0)
 
-    pub wrong-read : has ranks (2 * k) ≡ true → {h : ℕ} → h ≡ headSeen → not (eqb (getD values (2 * k) 0) (h % 2 ^ 32)) ≡ wrongAt s u c k
-    wrong-read e q = rw (wrong-is, e, q)
+    pub wrong-read : T (has ranks (2 * k)) → {h : ℕ} → h ≡ headSeen → not (eqb (getD values (2 * k) 0) (h % 2 ^ 32)) ≡ wrongAt s u c k
+    wrong-read t q = rw (wrong-is, T-true (has ranks (2 * k)) t, q)
 
     -- the first wrong read
     pub wrong-found : ((q : Key) → q < k → ¬ T (wrongAt s u c q)) → true ≡ wrongAt s u c k → {v : ℕ} → v ≡ highest (getD views (base + k) 0)
@@ -108,6 +109,22 @@ module _ {s : Store} {u : View} {c : Commit} {versions views : List ℕ} {base :
         rw (e, g .row k l)
         (sym (ap (mapSome (λ q. record { key = q; version = newest u q }))
         (least-found (s .keys) (wrongAt s u c) k (omega (arith, g .keys-are)) (true-T _ (sym here)) before)))
+
+  -- keys that are not read are not read wrongly
+  pub wrong-skip : (k q : ℕ) → q ≤ n → ((j : ℕ) → k ≤ j → j < q → ¬ T (has ranks (2 * j))) → ((j : Key) → j < k → ¬ T (wrongAt s u c j)) → (j : Key) → j < q → ¬ T (wrongAt s u c j)
+  wrong-skip k q small gap h j l = go (decLt j k)
+    where
+      go : Dec (j < k) → ¬ T (wrongAt s u c j)
+      go (yes x) = h j x
+      go (no x) = wrong-unread j (omega arith) (gap j (omega arith) l)
+
+  -- one key more
+  pub wrong-one : (q : ℕ) → ((j : Key) → j < q → ¬ T (wrongAt s u c j)) → ¬ T (wrongAt s u c q) → (j : Key) → j < q + 1 → ¬ T (wrongAt s u c j)
+  wrong-one q h n j l = go (ℕ-discrete j q)
+    where
+      go : Dec (j ≡ q) → ¬ T (wrongAt s u c j)
+      go (yes e) = subst (λ (i : ℕ). ¬ T (wrongAt s u c i)) (sym e) n
+      go (no x) = h j (omega arith)
 
   pub wrong-none : ((q : Key) → q < n → ¬ T (wrongAt s u c q)) → none ≡ wrongRead s u c
   unfolding wrongRead mapSome

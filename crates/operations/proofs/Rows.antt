@@ -1,28 +1,17 @@
 -- What the arrays say of the versions of one key, and a loop over the keys that changes what they say of one key at a time. Assumes nothing.
 use Prim.Native.Nat.{ℕ, _+_, _*_, _^_, _≤_, _<_}
 use mathlib.Core.Path.{_≡_, sym, _∙_, subst}
-use mathlib.Core.Bool.{Bool, true, false}
 use mathlib.Core.Logic.{_≢_}
 use mathlib.Core.List.{List}
 use native.Mathlib.Omega.{arith}
-use native.Mathlib.Decide.{ℕ-discrete}
+use native.Mathlib.Decide.{ℕ-discrete, decLt}
 use lib.ListN.{length, getD, set, length-set}
 use lib.Seq.{getD-set-other}
-use Rattle.search.specs.Choose.{choose}
 use Rattle.sets.specs.Set.{below}
 use Rattle.store.specs.Limits.{maxKeys}
 use Rattle.store.specs.Store.{Key, VersionNumber, CommitNumber, Version, openingVersion, Store, count}
 use Rattle.state.specs.Places.{perKey, headPlace, readersPlace, fullPlace, writersPlace, packed}
 use Rattle.state.specs.Keeps.{IsSet, KeepsVersions}
-
--- a choice by a test that failed, and by one that held
-pub choose-false : {A : Type 0} (b : Bool) (x y : A) → b ≡ false → y ≡ choose b x y
-unfolding choose
-choose-false b x y e = rw e
-
-pub choose-true : {A : Type 0} (b : Bool) (x y : A) → b ≡ true → x ≡ choose b x y
-unfolding choose
-choose-true b x y e = rw e
 
 -- ---- one key
 
@@ -110,3 +99,14 @@ module _ (R : List ℕ → Key → List Version → Type 0) (old new : Key → L
       go : (q : Key) → q < k + 1 → Dec (q ≡ k) → R after q (new q)
       go q m (yes e) = subst (λ (j : ℕ). R after j (new j)) (sym e) (here (p .left k (omega arith) l))
       go q m (no e) = other q e (omega arith) (new q) (p .done q (omega arith))
+
+  -- keys whose versions stay are passed at once
+  pub pass-skip : (k q : ℕ) (a : List ℕ) → k ≤ q → q ≤ n → ((j : Key) → k ≤ j → j < q → new j ≡ old j) → Passed R old new n k a → Passed R old new n q a
+  pass-skip k q a l m stays p = record {
+    done = λ j o. go j o (decLt j k);
+    left = λ j o r. p .left j (omega arith) r;
+  }
+    where
+      go : (j : Key) → j < q → Dec (j < k) → R a j (new j)
+      go j o (yes y) = p .done j y
+      go j o (no y) = subst (λ (vs : List Version). R a j vs) (sym (stays j (omega arith) o)) (p .left j (omega arith) (omega arith))

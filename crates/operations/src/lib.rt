@@ -5,20 +5,24 @@ ghost use mathlib.Core.Path.{_≡_};
 ghost use mathlib.Core.List.{List};
 ghost use Prim.Native.Nat.{ℕ, _+_, _*_, _/_, _%_, _^_, _<_, _≤_};
 ghost use lib.Bits.{bitOr};
+ghost use lib.Dec.{T};
 ghost use lib.ListN.{length, getD};
-ghost use Rattle.search.specs.Choose.{choose};
 ghost use Rattle.sets.specs.Set.{has, highest};
-ghost use Rattle.store.specs.Store.{View, Store, nextNumber, Commit};
+ghost use Rattle.store.specs.Store.{View, Store, version, nextNumber, Commit};
 ghost use Rattle.store.specs.Refusal.{wrongAt, wrongRead};
-ghost use Rattle.store.specs.Update.{update};
+ghost use Rattle.store.specs.Update.{newest, update};
 ghost use Rattle.state.specs.Places.{headPlace, readersPlace};
 ghost use Rattle.growth.proofs.Links.{FromRead, FromWrite, ToLater};
 ghost use Rattle.growth.proofs.Ordered.{Ordered};
 ghost use Rattle.state.specs.Answers.{placeOf};
 ghost use Rattle.state.specs.Keeps.{IsSet, KeepsVersions, KeepsKeys};
 ghost use Rattle.operations.specs.Given.{Given, Writing, Appending};
-ghost use Rattle.operations.specs.PerKey.{readAt, laterAt, writtenAt};
 ghost use Rattle.operations.specs.Change.{freeBit, free, readerAdded, versionAdded, keyGrown, readsNoted, writesAppended};
+
+// The two accesses, by their place in a rank.
+const READ: usize = 0;
+
+const WRITE: usize = 1;
 
 // The highest number of a mask, and 0 where it holds none.
 fn newest(mask: u64) -> usize
@@ -58,22 +62,12 @@ fn head_seen(versions: &[u64], views: &[u64], base: usize, k: usize) -> u64
     versions[at]
 }
 
-// Whether key k is read with another value than that of the newest version in the view.
-fn wrong_at(
-    versions: &[u64],
-    views: &[u64],
-    base: usize,
-    values: &[u64],
-    ranks: u64,
-    k: usize,
-) -> bool
+// Whether key k, which is read, is read with another value than that of the newest version in the view.
+fn wrong_at(versions: &[u64], views: &[u64], base: usize, values: &[u64], k: usize) -> bool
     requires { ⌜ (length (now versions) ≡ 2048) × (length (now views) ≡ 256) × (base + k < 256) × (k < 16) × (length (now values) ≡ 32) ⌝ }
-    ensures { λ r. ⌜ ((s : Store) (u : View) (c : Commit) (n : ℕ)
-        → Given s u c (now (versions .entry)) (now (views .entry)) base (now (values .entry)) ranks n → k < n → r ≡ wrongAt s u c k) ⌝ }
+    ensures { λ r. ⌜ ((s : Store) (u : View) (c : Commit) (ranks n : ℕ)
+        → Given s u c (now (versions .entry)) (now (views .entry)) base (now (values .entry)) ranks n → k < n → T (has ranks (2 * k)) → r ≡ wrongAt s u c k) ⌝ }
 {
-    if !sets::has(ranks, 2 * k) {
-        return false;
-    }
     values[2 * k] != value_of(head_seen(versions, views, base, k))
 }
 
@@ -90,90 +84,58 @@ pub fn wrong_read(
     ensures { λ r. ⌜ ((s : Store) (u : View) (c : Commit)
         → Given s u c (now (versions .entry)) (now (views .entry)) base (now (values .entry)) ranks n → placeOf r ≡ wrongRead s u c) ⌝ }
 {
-    let mut k: usize = 0;
-    while k < n {
-        if wrong_at(versions, views, base, values, ranks, k) {
+    let mut left = state::keys_with(ranks, READ, n);
+    while left != 0 {
+        let k = sets::lowest(left) / 2;
+        if wrong_at(versions, views, base, values, k) {
             return state::Found::At(state::Key(k), state::VersionNumber(seen(views, base, k)));
         }
-        k = k + 1;
+        left = sets::rest(left);
     }
     state::Found::Nothing
 }
 
-// The writer of the version that is read at key k; none where k is not read.
-fn source_at(versions: &[u64], views: &[u64], base: usize, ranks: u64, k: usize) -> u64
+// The commits from which a commit reads, and those that wrote later versions of the keys that it reads.
+pub struct Reads {
+    pub from: u64,
+    pub over: u64,
+}
+
+// The writer of the version that a read of key k sees.
+fn writer_seen(versions: &[u64], views: &[u64], base: usize, k: usize) -> usize
     requires { ⌜ (length (now versions) ≡ 2048) × (length (now views) ≡ 256) × (base + k < 256) × (k < 16) ⌝ }
-    ensures { λ r. ⌜ ((s : Store) (u : View) (c : Commit) (values : List ℕ) (n : ℕ)
-        → Given s u c (now (versions .entry)) (now (views .entry)) base values ranks n → k < n → IsSet r (readAt s u c k)) ⌝ }
+    ensures { λ r. ⌜ (r < 64) × ((s : Store) (u : View) (c : Commit) (values : List ℕ) (ranks n : ℕ)
+        → Given s u c (now (versions .entry)) (now (views .entry)) base values ranks n → k < n → r ≡ version s k (newest u k) .writer) ⌝ }
 {
-    if !sets::has(ranks, 2 * k) {
-        return 0;
-    }
-    sets::single(writer_of(head_seen(versions, views, base, k)))
+    writer_of(head_seen(versions, views, base, k))
 }
 
-// The writers of the versions that are read.
-pub fn sources(versions: &[u64], views: &[u64], base: usize, ranks: u64, n: usize) -> u64
-    requires { ⌜ (length (now versions) ≡ 2048) × (length (now views) ≡ 256) × (base + n ≤ 256) × (n ≤ 16) ⌝ }
-    ensures { λ r. ⌜ ((s : Store) (u : View) (c : Commit) (values : List ℕ)
-        → Given s u c (now (versions .entry)) (now (views .entry)) base values ranks n → IsSet r (FromRead s u c)) ⌝ }
-{
-    let mut found: u64 = 0;
-    let mut k: usize = 0;
-    while k < n {
-        found = sets::union(found, source_at(versions, views, base, ranks, k));
-        k = k + 1;
-    }
-    found
-}
-
-// The writers of later versions of key k than the one that is read; none where k is not read. As writers rise with the version
-// number, these are the writers of k that are above the writer of the version that is read.
-fn later_at(versions: &[u64], keys: &[u64], views: &[u64], base: usize, ranks: u64, k: usize) -> u64
-    requires { ⌜ (length (now versions) ≡ 2048) × (length (now keys) ≡ 32) × (length (now views) ≡ 256) × (base + k < 256) × (k < 16) ⌝ }
-    ensures { λ r. ⌜ ((s : Store) (u : View) (c : Commit) (values : List ℕ) (n : ℕ)
-        → Given s u c (now (versions .entry)) (now (views .entry)) base values ranks n → KeepsKeys s (now (keys .entry)) → Ordered s → k < n
-        → IsSet r (laterAt s u c k)) ⌝ }
-{
-    if !sets::has(ranks, 2 * k) {
-        return 0;
-    }
-    let writer = writer_of(head_seen(versions, views, base, k));
-    sets::without(keys[16 + k], sets::below(writer + 1))
-}
-
-// The writers of later versions of the keys that are read.
-pub fn overwriters(
+// The writers of the versions that are read, and of later versions of the same keys. As writers rise with the version number, these are
+// the writers of the key that are above the writer of the version that is read.
+pub fn sources(
     versions: &[u64],
     keys: &[u64],
     views: &[u64],
     base: usize,
     ranks: u64,
     n: usize,
-) -> u64
+) -> Reads
     requires { ⌜ (length (now versions) ≡ 2048) × (length (now keys) ≡ 32) × (length (now views) ≡ 256) × (base + n ≤ 256) × (n ≤ 16) ⌝ }
     ensures { λ r. ⌜ ((s : Store) (u : View) (c : Commit) (values : List ℕ)
         → Given s u c (now (versions .entry)) (now (views .entry)) base values ranks n → KeepsKeys s (now (keys .entry)) → Ordered s
-        → IsSet r (ToLater s u c)) ⌝ }
+        → IsSet (r .from) (FromRead s u c) × IsSet (r .over) (ToLater s u c)) ⌝ }
 {
-    let mut found: u64 = 0;
-    let mut k: usize = 0;
-    while k < n {
-        found = sets::union(found, later_at(versions, keys, views, base, ranks, k));
-        k = k + 1;
+    let mut from: u64 = 0;
+    let mut over: u64 = 0;
+    let mut left = state::keys_with(ranks, READ, n);
+    while left != 0 {
+        let k = sets::lowest(left) / 2;
+        let writer = writer_seen(versions, views, base, k);
+        from = sets::union(from, sets::single(writer));
+        over = sets::union(over, sets::without(keys[16 + k], sets::below(writer + 1)));
+        left = sets::rest(left);
     }
-    found
-}
-
-// The writers of key k; none where k is not written.
-fn earlier_at(keys: &[u64], ranks: u64, k: usize) -> u64
-    requires { ⌜ (length (now keys) ≡ 32) × (k < 16) ⌝ }
-    ensures { λ r. ⌜ ((s : Store) (c : Commit) (values : List ℕ) (n : ℕ) → Writing s c (now (keys .entry)) values ranks n → k < n → IsSet r (writtenAt s c k)) ⌝ }
-{
-    if !sets::has(ranks, 2 * k + 1) {
-        return 0;
-    }
-    keys[16 + k]
+    Reads { from, over }
 }
 
 // The writers of the keys that are written.
@@ -182,23 +144,19 @@ pub fn earlier(keys: &[u64], ranks: u64, n: usize) -> u64
     ensures { λ r. ⌜ ((s : Store) (c : Commit) (values : List ℕ) → Writing s c (now (keys .entry)) values ranks n → IsSet r (FromWrite s c)) ⌝ }
 {
     let mut found: u64 = 0;
-    let mut k: usize = 0;
-    while k < n {
-        found = sets::union(found, earlier_at(keys, ranks, k));
-        k = k + 1;
+    let mut left = state::keys_with(ranks, WRITE, n);
+    while left != 0 {
+        found = sets::union(found, keys[16 + sets::lowest(left) / 2]);
+        left = sets::rest(left);
     }
     found
 }
 
-// The reader `me` added to the version that a read of key k sees, where k is read.
-fn note_read(versions: &mut [u64], views: &[u64], base: usize, ranks: u64, k: usize, me: usize)
+// The reader `me` added to the version that a read of key k sees.
+fn note_read(versions: &mut [u64], views: &[u64], base: usize, k: usize, me: usize)
     requires { ⌜ (length (now versions) ≡ 2048) × (length (now views) ≡ 256) × (base + k < 256) × (k < 16) × (me < 64) ⌝ }
-    ensures { λ _. ⌜ now (versions .exit)
-        ≡ choose (has ranks (2 * k)) (readerAdded (now (versions .entry)) (readersPlace k (highest (getD (now (views .entry)) (base + k) 0))) me) (now (versions .entry)) ⌝ }
+    ensures { λ _. ⌜ now (versions .exit) ≡ readerAdded (now (versions .entry)) (readersPlace k (highest (getD (now (views .entry)) (base + k) 0))) me ⌝ }
 {
-    if !sets::has(ranks, 2 * k) {
-        return;
-    }
     let at = 1024 + (64 * k + seen(views, base, k));
     versions[at] = sets::insert(versions[at], me);
 }
@@ -209,10 +167,10 @@ pub fn note_reads(versions: &mut [u64], views: &[u64], base: usize, ranks: u64, 
     ensures { λ _. ⌜ ((s : Store) (u : View) (c : Commit) (values : List ℕ)
         → Given s u c (now (versions .entry)) (now (views .entry)) base values ranks n → KeepsVersions (readsNoted s u c me) (now (versions .exit))) ⌝ }
 {
-    let mut k: usize = 0;
-    while k < n {
-        note_read(versions, views, base, ranks, k, me);
-        k = k + 1;
+    let mut left = state::keys_with(ranks, READ, n);
+    while left != 0 {
+        note_read(versions, views, base, sets::lowest(left) / 2, me);
+        left = sets::rest(left);
     }
 }
 
@@ -244,27 +202,16 @@ fn grow_key(keys: &mut [u64], k: usize, bit: u64, me: usize)
     keys[16 + k] = writers;
 }
 
-// A version by `me` appended to key k, where k is written. The bit of the new version is one more than the mask of all before it; the sum
-// wraps only where there are 64 of them, which is so in no store with room for a commit.
-fn append_at(
-    versions: &mut [u64],
-    keys: &mut [u64],
-    values: &[u64],
-    ranks: u64,
-    k: usize,
-    me: usize,
-)
-    requires { ⌜ (length (now versions) ≡ 2048) × (length (now keys) ≡ 32) × (length (now values) ≡ 32) × (k < 16) × (me < 64) ⌝ }
-    ensures { λ _. ⌜ (now (versions .exit)
-        ≡ choose (has ranks (2 * k + 1)) (versionAdded (now (versions .entry)) (headPlace k (free (now (keys .entry)) k)) (bitOr (getD (now (values .entry)) (2 * k + 1) 0) (me * 2 ^ 32))) (now (versions .entry)))
-        × (now (keys .exit) ≡ choose (has ranks (2 * k + 1)) (keyGrown (now (keys .entry)) k (freeBit (now (keys .entry)) k) me) (now (keys .entry))) ⌝ }
+// A version by `me` appended to key k. The bit of the new version is one more than the mask of all before it; the sum wraps only where
+// there are 64 of them, which is so in no store with room for a commit.
+fn append_at(versions: &mut [u64], keys: &mut [u64], value: u64, k: usize, me: usize)
+    requires { ⌜ (length (now versions) ≡ 2048) × (length (now keys) ≡ 32) × (k < 16) × (me < 64) ⌝ }
+    ensures { λ _. ⌜ (now (versions .exit) ≡ versionAdded (now (versions .entry)) (headPlace k (free (now (keys .entry)) k)) (bitOr value (me * 2 ^ 32)))
+        × (now (keys .exit) ≡ keyGrown (now (keys .entry)) k (freeBit (now (keys .entry)) k) me) ⌝ }
 {
-    if !sets::has(ranks, 2 * k + 1) {
-        return;
-    }
     let bit = std::num::wrapping_add_u64(keys[k], 1);
     let at = 64 * k + newest(bit);
-    put_version(versions, at, head_of(values[2 * k + 1], me));
+    put_version(versions, at, head_of(value, me));
     grow_key(keys, k, bit, me);
 }
 
@@ -281,10 +228,11 @@ pub fn append(
     ensures { λ _. ⌜ ((s : Store) (c : Commit) → Appending s c (now (versions .entry)) (now (keys .entry)) (now (values .entry)) ranks n
         → KeepsVersions (writesAppended s c me) (now (versions .exit)) × KeepsKeys (writesAppended s c me) (now (keys .exit))) ⌝ }
 {
-    let mut k: usize = 0;
-    while k < n {
-        append_at(versions, keys, values, ranks, k, me);
-        k = k + 1;
+    let mut left = state::keys_with(ranks, WRITE, n);
+    while left != 0 {
+        let k = sets::lowest(left) / 2;
+        append_at(versions, keys, values[2 * k + 1], k, me);
+        left = sets::rest(left);
     }
 }
 

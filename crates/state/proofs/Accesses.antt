@@ -55,6 +55,10 @@ module _ {ranks : Set} {access n k : ℕ} {left : Set} (h : Left ranks access n 
           later : lowest left ≤ i → ¬ (i ≡ lowest left) → q + 1 ≤ j
           later f g = omega (arith, f, g, d, least-is)
 
+-- the key of a turn is one of the n keys
+pub turn-below : {ranks : Set} {access n k : ℕ} {left : Set} → Left ranks access n k left → 0 < left → {r : ℕ} → r ≡ lowest left → r / 2 < n
+turn-below h p e = next-key h p (ap (λ (x : ℕ). x / 2) e) .1
+
 -- where nothing is left, no key from k on has an operation
 pub left-none : {ranks : Set} {access n k left : ℕ} → Left ranks access n k left → left ≡ 0 → (j : ℕ) → k ≤ j → j < n → ¬ T (has ranks (rank access j))
 left-none h e j l m t = has-none (2 * j) (subst (λ (x : Set). T (has x (2 * j))) e (h .all j l m t))

@@ -1,3 +1,4 @@
+-- `making::led_by` meets its contract. Assumes nothing.
 use Prim.Native.Nat.{ℕ}
 use mathlib.Core.Path.{sym, subst}
 use Rattle.growth.proofs.Links.{FromSession}
@@ -6,46 +7,32 @@ use Rattle.making.proofs.LedBy.{as-given, as-writing, led-before}
 use borrow.Author.Needs.{needs}
 use Rattle.making.proofs.led_by.Statement.{statement}
 use Rattle.making.proofs.led_by.Tie as tie
-use Rattle.making.proofs.led_by.Reads as reads
-use Rattle.making.proofs.led_by.Lts as lts
-use Rattle.operations.proofs.earlier.Reads as earlier-reads
-use Rattle.operations.proofs.overwriters.Reads as overwriters-reads
-use Rattle.operations.proofs.sources.Reads as sources-reads
-use Rattle.making.proofs.before_of.Reads as before-of-reads
 
--- src/commits.rt:43:16
 mul-base : tie.Need-mul-base
 mul-base c = search needs
 
--- src/commits.rt:44:9
 before-of-requires : tie.Need-before-of-requires
 before-of-requires c κs = search needs
 
--- src/commits.rt:45:9
 sources-requires : tie.Need-sources-requires
 sources-requires c κs = search needs
 
--- src/commits.rt:46:9
-overwriters-requires : tie.Need-overwriters-requires
-overwriters-requires c κs = search needs
-
--- src/commits.rt:47:9
 earlier-requires : tie.Need-earlier-requires
 earlier-requires c κs = search needs
 
--- src/commits.rt:33:1
 returns : tie.Need-returns
 returns c =
-    let b = c .before .before .before .before .before .before .before .before in
+    let b = c .before .before .before .before .before .before .before in
     let a = b .args in
     λ s u k values g.
         let given = as-given s u k (a .versions .now) (a .keys .now) (a .views .now) (a .sessions .now) values (a .client) (a .ranks) (a .n) g in
+        let reads = c .before .sources .ensures s u k values given (g .in-keys) (g .ordered) in
         record {
-          by-session = subst (λ (m : ℕ). IsSet m (FromSession s k)) (sym (c .before .before .before .before-of .ensures))
+          by-session = subst (λ (m : ℕ). IsSet m (FromSession s k)) (sym (c .before .before .before-of .ensures))
             (led-before s u k (a .versions .now) (a .keys .now) (a .views .now) (a .sessions .now) values (a .client) (a .ranks) (a .n) g (b .pre .1) (b .fits .ranks .fits));
-          by-read = c .before .before .sources .ensures s u k values given;
+          by-read = reads .0;
           by-write = c .earlier .ensures s k values (as-writing s u k (a .versions .now) (a .keys .now) (a .views .now) (a .sessions .now) values (a .client) (a .ranks) (a .n) g);
-          to-later = c .before .overwriters .ensures s u k values given (g .in-keys) (g .ordered)
+          to-later = reads .1
         }
 
 pub led-by-spec : {M : Type 1} → statement M
@@ -55,6 +42,5 @@ led-by-spec =
     mul-base
     before-of-requires
     sources-requires
-    overwriters-requires
     earlier-requires
     returns)

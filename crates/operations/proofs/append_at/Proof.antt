@@ -1,24 +1,8 @@
 -- `operations::append_at` meets its contract. Assumes nothing.
-use mathlib.Core.Path.{sym, _∙_}
-use borrow.Author.Tests.{not-true, not-false}
+use mathlib.Core.Path.{refl, _∙_}
 use borrow.Author.Needs.{needs}
-use Rattle.operations.proofs.Rows.{choose-false, choose-true}
 use Rattle.operations.proofs.append_at.Statement.{statement}
 use Rattle.operations.proofs.append_at.Tie as tie
-
-mul-has : tie.Need-mul-has
-mul-has c = search needs
-
-add-has : tie.Need-add-has
-add-has c = search needs
-
-has-requires : tie.Need-has-requires
-has-requires c κs = search needs
-
-returns : tie.Need-returns
-returns c =
-    let e = sym (c .before .has .ensures) ∙ not-true _ (c .if1 .taken) in
-    (choose-false _ _ _ e, choose-false _ _ _ e)
 
 mul-wrapping-add-u64 : tie.Need-mul-wrapping-add-u64
 mul-wrapping-add-u64 c = search needs
@@ -38,18 +22,6 @@ newest-requires c κs = search needs
 add-at : tie.Need-add-at
 add-at c = search needs
 
-mul-head-of : tie.Need-mul-head-of
-mul-head-of c = search needs
-
-add-head-of : tie.Need-add-head-of
-add-head-of c = search needs
-
-mul-head-of-2 : tie.Need-mul-head-of-2
-mul-head-of-2 c = search needs
-
-shared-slice-read-head-of : tie.Need-shared-slice-read-head-of
-shared-slice-read-head-of c = search needs
-
 head-of-requires : tie.Need-head-of-requires
 head-of-requires c κs = search needs
 
@@ -65,34 +37,25 @@ same-length c = search needs
 same-length-2 : tie.Need-same-length-2
 same-length-2 c = search needs
 
-returns-2 : tie.Need-returns-2
-returns-2 c =
-    let e = sym (c .before .before .before .before .before .before .before .before .before .before .before .before .before .before .has .ensures) ∙ not-false _ (c .before .before .before .before .before .before .before .before .before .before .before .before .before .if1 .left) in (
-      c .before .before .before .before .before .before .put-version .ensures ∙ rw (c .before .before .before .before .before .before .before .before .before .before .newest .ensures .0, c .before .before .before .before .before .before .before .before .before .before .before .wrapping-add-u64 .ensures, c .before .before .before .before .before .before .before .head-of .ensures) (choose-true _ _ _ e),
-      c .before .before .grow-key .ensures ∙ rw (c .before .before .before .before .before .before .before .before .before .before .before .wrapping-add-u64 .ensures) (choose-true _ _ _ e),
-    )
+returns : tie.Need-returns
+returns c = (
+  c .before .before .before .before .before .before .put-version .ensures ∙ rw (c .before .before .before .before .before .before .before .before .before .newest .ensures .0, c .before .before .before .before .before .before .before .before .before .before .wrapping-add-u64 .ensures, c .before .before .before .before .before .before .before .head-of .ensures) refl,
+  c .before .before .grow-key .ensures ∙ rw (c .before .before .before .before .before .before .before .before .before .before .wrapping-add-u64 .ensures) refl,
+)
 
 pub append-at-spec : {M : Type 1} → statement M
 append-at-spec =
     tie.close
     (tie.spec
-    mul-has
-    add-has
-    has-requires
-    returns
     mul-wrapping-add-u64
     slice-read-wrapping-add-u64
     wrapping-add-u64-requires
     mul-at
     newest-requires
     add-at
-    mul-head-of
-    add-head-of
-    mul-head-of-2
-    shared-slice-read-head-of
     head-of-requires
     put-version-requires
     grow-key-requires
     same-length
     same-length-2
-    returns-2)
+    returns)

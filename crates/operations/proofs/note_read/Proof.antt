@@ -1,19 +1,8 @@
 -- `operations::note_read` meets its contract. Assumes nothing.
-use mathlib.Core.Path.{sym, _∙_}
-use borrow.Author.Tests.{not-true, not-false}
+use mathlib.Core.Path.{refl}
 use borrow.Author.Needs.{needs}
-use Rattle.operations.proofs.Rows.{choose-false, choose-true}
 use Rattle.operations.proofs.note_read.Statement.{statement}
 use Rattle.operations.proofs.note_read.Tie as tie
-
-mul-has : tie.Need-mul-has
-mul-has c = search needs
-
-has-requires : tie.Need-has-requires
-has-requires c κs = search needs
-
-returns : tie.Need-returns
-returns c = choose-false _ _ _ (sym (c .before .has .ensures) ∙ not-true _ (c .if1 .taken))
 
 mul-at : tie.Need-mul-at
 mul-at c = search needs
@@ -45,17 +34,13 @@ slice-write-versions c = search needs
 same-length : tie.Need-same-length
 same-length c = search needs
 
-returns-2 : tie.Need-returns-2
-returns-2 c =
-    rw (c .insert .ensures, c .before .before .seen .ensures .0) (choose-true _ _ _ (sym (c .before .before .before .before .has .ensures) ∙ not-false _ (c .before .before .before .if1 .left)))
+returns : tie.Need-returns
+returns c = rw (c .insert .ensures, c .before .before .seen .ensures .0) refl
 
 pub note-read-spec : {M : Type 1} → statement M
 note-read-spec =
     tie.close
     (tie.spec
-    mul-has
-    has-requires
-    returns
     mul-at
     seen-requires
     add-at
@@ -66,4 +51,4 @@ note-read-spec =
     mul-versions
     slice-write-versions
     same-length
-    returns-2)
+    returns)

@@ -1,45 +1,94 @@
--- `operations::sources` meets its contract. The set so far is that of the keys passed. Assumes nothing.
-use Prim.Native.Nat.{ℕ, _-_, _≤_}
+-- `operations::sources` meets its contract. The sets so far are those of the keys passed. Assumes nothing.
+use Prim.Native.Nat.{ℕ, _+_, _/_, _≤_}
+use mathlib.Core.Path.{ap}
 use mathlib.Core.List.{List}
 use native.Mathlib.Omega.{arith}
 use borrow.Author.Needs.{needs}
 use Rattle.store.specs.Store.{View, Store, Commit}
-use Rattle.state.specs.Keeps.{IsSet}
+use Rattle.growth.proofs.Ordered.{Ordered}
+use Rattle.state.specs.Keeps.{IsSet, KeepsKeys}
+use Rattle.state.specs.Accesses.{Left}
+use Rattle.state.proofs.Accesses.{next-key, left-rest, turn-below}
 use Rattle.operations.specs.Given.{Given}
-use Rattle.operations.specs.PerKey.{readAt}
-use Rattle.operations.proofs.Gather.{UpTo, gather-none, gather-more}
-use Rattle.operations.proofs.PerKey.{all-sources}
+use Rattle.operations.specs.PerKey.{readAt, laterAt}
+use Rattle.operations.proofs.Gather.{UpTo, gather-none}
+use Rattle.operations.proofs.PerKey.{source-read, later-read, reads-turn, all-sources, all-later}
 use Rattle.operations.proofs.sources.Statement.{statement}
 use Rattle.operations.proofs.sources.Tie as tie
 
 abbrev Inv-loop : tie.InvT-loop
-Inv-loop versions views base ranks n found₀ k₀ found k =
-    (k ≤ n) × ((s : Store) (u : View) (c : Commit) (values : List ℕ) → Given s u c versions views base values ranks n → IsSet found (UpTo (readAt s u c) k))
+Inv-loop versions keys views base ranks n from₀ over₀ left₀ from over left =
+    (k : ℕ) × (k ≤ n) × Left ranks 0 n k left
+    × ((s : Store) (u : View) (c : Commit) (values : List ℕ) → Given s u c versions views base values ranks n → KeepsKeys s keys → Ordered s
+        → IsSet from (UpTo (readAt s u c) k) × IsSet over (UpTo (laterAt s u c) k))
 
 abbrev μ-loop : tie.MeasureT-loop
-μ-loop versions views base ranks n found₀ k₀ found k = n - k
+μ-loop versions keys views base ranks n from₀ over₀ left₀ from over left = left
+
+keys-with-requires : tie.Need-keys-with-requires Inv-loop μ-loop
+keys-with-requires c κs = search needs
 
 loop-holds : tie.Need-loop-holds Inv-loop μ-loop
-loop-holds c = (omega arith, λ s u d values g. gather-none (readAt s u d))
+loop-holds c = (0, omega arith, c .keys-with .ensures, λ s u d values g kept o. (gather-none (readAt s u d), gather-none (laterAt s u d)))
 
-source-at-requires : tie.Need-source-at-requires Inv-loop μ-loop
-source-at-requires c κs = search needs
+lowest-requires : tie.Need-lowest-requires Inv-loop μ-loop
+lowest-requires c κs = search needs
+
+writer-seen-requires : tie.Need-writer-seen-requires Inv-loop μ-loop
+writer-seen-requires c κs = let l = turn-below (c .before .before .loop .inv .2) (omega arith) (c .lowest .ensures .0) in (search needs, search needs, omega (arith, l), omega (arith, l))
+
+single-requires : tie.Need-single-requires Inv-loop μ-loop
+single-requires c κs = search needs
 
 union-requires : tie.Need-union-requires Inv-loop μ-loop
 union-requires c κs = search needs
 
-add-k : tie.Need-add-k Inv-loop μ-loop
-add-k c = search needs
+add-without : tie.Need-add-without Inv-loop μ-loop
+add-without c = search needs
+
+mul-without : tie.Need-mul-without Inv-loop μ-loop
+mul-without c = search needs
+
+shared-slice-read-without : tie.Need-shared-slice-read-without Inv-loop μ-loop
+shared-slice-read-without c = let l = turn-below (c .before .before .before .before .before .before .loop .inv .2) (omega arith) (c .before .before .before .before .lowest .ensures .0) in omega (arith, l)
+
+add-below : tie.Need-add-below Inv-loop μ-loop
+add-below c = search needs
+
+below-requires : tie.Need-below-requires Inv-loop μ-loop
+below-requires c κs = search needs
+
+without-requires : tie.Need-without-requires Inv-loop μ-loop
+without-requires c κs = search needs
+
+union-requires-2 : tie.Need-union-requires-2 Inv-loop μ-loop
+union-requires-2 c κs = search needs
+
+rest-requires : tie.Need-rest-requires Inv-loop μ-loop
+rest-requires c κs = search needs
 
 loop-less : tie.Need-loop-less Inv-loop μ-loop
 loop-less c = search needs
 
 loop-again : tie.Need-loop-again Inv-loop μ-loop
 loop-again c =
-    (omega arith, λ s u d values g. gather-more (readAt s u d) _ _ _ (c .union .ensures) (c .before .before .before .loop .inv .1 s u d values g) (c .before .source-at .ensures s u d values _ g (omega arith)))
+    let (k, small, h, p) = c .before .before .before .before .before .before .before .before .before .before .loop .inv in
+    let q = ap (λ (x : ℕ). x / 2) (c .before .before .before .before .before .before .before .before .lowest .ensures .0) in
+    let (_, l, r, _) = next-key h (omega arith) q in (
+      c .before .before .before .before .before .before .before .before .lowest .result / 2 + 1,
+      omega (arith, l),
+      left-rest h (omega arith) q (c .rest .ensures .0),
+      λ s u d values g kept o.
+          let w = c .before .before .before .before .before .before .before .writer-seen .ensures .1 s u d values _ _ g l in (
+            reads-turn g h (readAt s u d) (λ q t x. x .0) _ (p s u d values g kept o .0) (omega arith) q _ (c .before .before .before .before .before .union .ensures) (source-read g _ l r w (c .before .before .before .before .before .before .single .ensures)),
+            reads-turn g h (laterAt s u d) (λ q t x. x .0) _ (p s u d values g kept o .1) (omega arith) q _ (c .before .union2 .ensures) (later-read g _ l r w o kept (c .before .before .before .below .ensures) (c .before .before .without .ensures)),
+          ),
+    )
 
 returns : tie.Need-returns Inv-loop μ-loop
-returns c = λ s u d values g. all-sources g _ (omega arith) _ (c .before .loop .inv .1 s u d values g)
+returns c =
+    let (k, small, h, p) = c .before .loop .inv in
+    λ s u d values g kept o. (all-sources g h small (omega arith) _ (p s u d values g kept o .0), all-later g h small (omega arith) _ (p s u d values g kept o .1))
 
 pub sources-spec : {M : Type 1} → statement M
 sources-spec =
@@ -47,10 +96,20 @@ sources-spec =
     (tie.spec
     Inv-loop
     μ-loop
+    keys-with-requires
     loop-holds
-    source-at-requires
+    lowest-requires
+    writer-seen-requires
+    single-requires
     union-requires
-    add-k
+    add-without
+    mul-without
+    shared-slice-read-without
+    add-below
+    below-requires
+    without-requires
+    union-requires-2
+    rest-requires
     loop-less
     loop-again
     returns)

@@ -1,51 +1,68 @@
 -- `operations::wrong_read` meets its contract. The keys passed are not read wrongly. Assumes nothing.
-use Prim.Native.Nat.{ℕ, _-_, _≤_, _<_}
-use mathlib.Core.Path.{sym, _∙_}
-use native.Mathlib.Omega.{arith}
 use borrow.Author.Needs.{needs}
-use borrow.Author.Count.{below-more}
+use Prim.Native.Nat.{ℕ, _+_, _/_, _≤_, _<_}
+use mathlib.Core.Path.{ap, sym, _∙_}
+use native.Mathlib.Omega.{arith}
 use lib.Dec.{T}
 use Rattle.store.specs.Store.{View, Store, Commit}
 use Rattle.store.specs.Refusal.{wrongAt}
+use Rattle.state.specs.Accesses.{Left}
+use Rattle.state.proofs.Accesses.{next-key, left-rest, left-none, turn-below}
 use Rattle.operations.specs.Given.{Given}
-use Rattle.operations.proofs.Reading.{false-T, wrong-found, wrong-none}
+use Rattle.operations.proofs.Reading.{false-T, wrong-skip, wrong-one, wrong-found, wrong-none}
 use Rattle.operations.proofs.wrong_read.Statement.{statement}
 use Rattle.operations.proofs.wrong_read.Tie as tie
 
 abbrev Inv-loop : tie.InvT-loop
-Inv-loop versions views base values ranks n k₀ k =
-    (k ≤ n) × ((s : Store) (u : View) (c : Commit) → Given s u c versions views base values ranks n → (q : ℕ) → q < k → ¬ T (wrongAt s u c q))
+Inv-loop versions views base values ranks n left₀ left =
+    (k : ℕ) × (k ≤ n) × Left ranks 0 n k left
+    × ((s : Store) (u : View) (c : Commit) → Given s u c versions views base values ranks n → (q : ℕ) → q < k → ¬ T (wrongAt s u c q))
 
 abbrev μ-loop : tie.MeasureT-loop
-μ-loop versions views base values ranks n k₀ k = n - k
+μ-loop versions views base values ranks n left₀ left = left
+
+keys-with-requires : tie.Need-keys-with-requires Inv-loop μ-loop
+keys-with-requires c κs = search needs
 
 loop-holds : tie.Need-loop-holds Inv-loop μ-loop
-loop-holds c = search needs
+loop-holds c = (0, omega arith, c .keys-with .ensures, λ s u d g q l. absurd (omega arith))
+
+lowest-requires : tie.Need-lowest-requires Inv-loop μ-loop
+lowest-requires c κs = search needs
 
 wrong-at-requires : tie.Need-wrong-at-requires Inv-loop μ-loop
-wrong-at-requires c κs = search needs
+wrong-at-requires c κs = let l = turn-below (c .before .before .loop .inv .2) (omega arith) (c .lowest .ensures .0) in (search needs, search needs, omega (arith, l), omega (arith, l), search needs)
 
 seen-requires : tie.Need-seen-requires Inv-loop μ-loop
-seen-requires c κs = search needs
+seen-requires c κs = let l = turn-below (c .before .before .before .before .loop .inv .2) (omega arith) (c .before .before .lowest .ensures .0) in (search needs, omega (arith, l))
 
 returns : tie.Need-returns Inv-loop μ-loop
 returns c =
-    λ s u d g. wrong-found g _ (omega arith) (c .before .before .before .before .loop .inv .1 s u d g) (sym (c .before .if1 .taken) ∙ c .before .before .wrong-at .ensures s u d _ g (omega arith)) (c .seen .ensures .0)
+    let (k, small, h, p) = c .before .before .before .before .before .loop .inv in
+    let (b, l, r, none) = next-key h (omega arith) (ap (λ (x : ℕ). x / 2) (c .before .before .before .lowest .ensures .0)) in
+    λ s u d g. wrong-found g _ l (wrong-skip g k _ (omega (arith, l)) none (p s u d g)) (sym (c .before .if1 .taken) ∙ c .before .before .wrong-at .ensures s u d _ _ g l r) (c .seen .ensures .0)
 
-add-k : tie.Need-add-k Inv-loop μ-loop
-add-k c = search needs
+rest-requires : tie.Need-rest-requires Inv-loop μ-loop
+rest-requires c κs = search needs
 
 loop-less : tie.Need-loop-less Inv-loop μ-loop
 loop-less c = search needs
 
 loop-again : tie.Need-loop-again Inv-loop μ-loop
-loop-again c = (
-  omega arith,
-  λ s u d g. below-more _ _ (c .before .before .before .loop .inv .1 s u d g) (λ t. false-T _ (sym (c .before .wrong-at .ensures s u d _ g (omega arith)) ∙ c .if1 .left) t),
-)
+loop-again c =
+    let (k, small, h, p) = c .before .before .before .before .before .loop .inv in
+    let q = ap (λ (x : ℕ). x / 2) (c .before .before .before .lowest .ensures .0) in
+    let (b, l, r, none) = next-key h (omega arith) q in (
+      c .before .before .before .lowest .result / 2 + 1,
+      omega (arith, l),
+      left-rest h (omega arith) q (c .rest .ensures .0),
+      λ s u d g. wrong-one g _ (wrong-skip g k _ (omega (arith, l)) none (p s u d g)) (false-T _ (sym (c .before .before .wrong-at .ensures s u d _ _ g l r) ∙ c .before .if1 .left)),
+    )
 
 returns-2 : tie.Need-returns-2 Inv-loop μ-loop
-returns-2 c = λ s u d g. wrong-none g (λ q l. c .before .loop .inv .1 s u d g q (omega arith))
+returns-2 c =
+    let (k, small, h, p) = c .before .loop .inv in
+    λ s u d g. wrong-none g (wrong-skip g k _ (omega arith) (λ j a l. left-none h (omega arith) j a l) (p s u d g))
 
 pub wrong-read-spec : {M : Type 1} → statement M
 wrong-read-spec =
@@ -53,11 +70,13 @@ wrong-read-spec =
     (tie.spec
     Inv-loop
     μ-loop
+    keys-with-requires
     loop-holds
+    lowest-requires
     wrong-at-requires
     seen-requires
     returns
-    add-k
+    rest-requires
     loop-less
     loop-again
     returns-2)
