@@ -8,7 +8,6 @@ use native.Mathlib.Omega.{arith}
 use native.Mathlib.Decide.{ℕ-discrete, decLt}
 use lib.Dec.{T, eqb}
 use lib.Pow.{pow-pos}
-use lib.Count.{leadingZeros}
 use lib.ListN.{getD}
 use Rattle.search.specs.Choose.{isSome, mapSome, when}
 use Rattle.search.proofs.Tests.{true-T, T-true, T-false, and-is, same}
@@ -21,11 +20,6 @@ use Rattle.store.specs.Refusal.{differs, wrongAt, wrongRead}
 use Rattle.state.specs.Places.{headPlace, packed}
 use Rattle.state.specs.Keeps.{KeepsOperations}
 use Rattle.operations.specs.Given.{Given}
-
--- no number is above all of an empty mask's
-pub highest-none : highest 0 ≡ 0
-unfolding highest leadingZeros
-highest-none = refl
 
 -- a test that fails does not hold
 pub false-T : (b : Bool) → b ≡ false → ¬ T b

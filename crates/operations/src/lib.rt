@@ -24,13 +24,6 @@ const READ: usize = 0;
 
 const WRITE: usize = 1;
 
-// The highest number of a mask, and 0 where it holds none.
-fn newest(mask: u64) -> usize
-    ensures { λ r. ⌜ (r ≡ highest mask) × (r < 64) ⌝ }
-{
-    if mask == 0 { 0 } else { sets::highest(mask) }
-}
-
 // The value in the head of a version.
 fn value_of(head: u64) -> u64
     ensures { λ r. ⌜ r ≡ head % 2 ^ 32 ⌝ }
@@ -50,7 +43,7 @@ fn seen(views: &[u64], base: usize, k: usize) -> usize
     requires { ⌜ (length (now views) ≡ 256) × (base + k < 256) ⌝ }
     ensures { λ r. ⌜ (r ≡ highest (getD (now (views .entry)) (base + k) 0)) × (r < 64) ⌝ }
 {
-    newest(views[base + k])
+    state::newest(views[base + k])
 }
 
 // The head of the version that a read of key k sees.
@@ -210,7 +203,7 @@ fn append_at(versions: &mut [u64], keys: &mut [u64], value: u64, k: usize, me: u
         × (now (keys .exit) ≡ keyGrown (now (keys .entry)) k (freeBit (now (keys .entry)) k) me) ⌝ }
 {
     let bit = std::num::wrapping_add_u64(keys[k], 1);
-    let at = 64 * k + newest(bit);
+    let at = 64 * k + state::newest(bit);
     put_version(versions, at, head_of(value, me));
     grow_key(keys, k, bit, me);
 }

@@ -1,11 +1,12 @@
 -- Words as the sets that they are: what union, insert and the like make of the sets of the numbers with P. Assumes nothing.
 use Prim.Native.Nat.{ℕ, _<_}
-use mathlib.Core.Path.{_≡_, sym, subst}
+use mathlib.Core.Path.{_≡_, refl, sym, subst}
 use mathlib.Core.Bool.{_||_}
 use mathlib.Core.Logic.{_⊎_, inl, inr, _↔_}
 use lib.Dec.{T, eqb}
+use lib.Count.{leadingZeros}
 use Rattle.search.proofs.Tests.{both, or-is, eq-is}
-use Rattle.sets.specs.Set.{has, single, insert, union, without}
+use Rattle.sets.specs.Set.{has, single, insert, union, without, highest}
 use Rattle.sets.proofs.Laws.{has-none}
 use Rattle.sets.proofs.Algebra.{has-union, without-is, has-single, has-insert-is}
 use Rattle.state.specs.Keeps.{IsSet}
@@ -28,3 +29,8 @@ isSet-insert {P} i m p t = subst (λ x. T x ↔ ((t ≡ i) ⊎ P t)) (sym (has-i
 
 pub isSet-without : {P Q : ℕ → Type 0} (a b : ℕ) → IsSet a P → IsSet b Q → IsSet (without a b) (λ t. P t × (¬ Q t))
 isSet-without a b p q t = both (without-is a b t) (λ (x, n). (p t .0 x, λ y. n (q t .1 y)), λ (x, n). (p t .1 x, λ y. n (q t .0 y)))
+
+-- no number is above all of an empty set's
+pub highest-none : highest 0 ≡ 0
+unfolding highest leadingZeros
+highest-none = refl

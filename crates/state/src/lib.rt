@@ -1,6 +1,8 @@
 // The numbers of the store, kept from being swapped by accident, and answers that name a key or a version. The arrays in which the
 // judge keeps a configuration are described in specs/Places.antt (where things stand) and specs/Keeps.antt (what they say).
+ghost use mathlib.Core.Path.{_≡_};
 ghost use Prim.Native.Nat.{_≤_, _<_};
+ghost use Rattle.sets.specs.Set.{highest};
 ghost use Rattle.state.specs.Accesses.{Left};
 
 // The number of a key.
@@ -22,6 +24,13 @@ pub enum Found {
 pub enum FoundKey {
     AtKey(Key),
     NoKey,
+}
+
+// The number of the newest version in a mask, and 0 where it holds none.
+pub fn newest(mask: u64) -> usize
+    ensures { λ r. ⌜ (r ≡ highest mask) × (r < 64) ⌝ }
+{
+    if mask == 0 { 0 } else { sets::highest(mask) }
 }
 
 // The keys below n that have an operation of this access (0 for reads, 1 for writes), as the set of twice their numbers. A loop over it

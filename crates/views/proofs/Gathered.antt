@@ -77,13 +77,13 @@ module _ (versions : List ℕ) (k among : ℕ) where
 
 -- the set of each key below k, and that of key k
 module _ (P : ℕ → ℕ → Type 0) where
-  keys-none : IsSet 0 (λ t. (l : ℕ) × (l < 0) × P l t)
+  pub keys-none : IsSet 0 (λ t. (l : ℕ) × (l < 0) × P l t)
   keys-none = isSet-none (λ t (l, b, _). absurd (none l b))
     where
       none : (l : ℕ) → l < 0 → ⊥
       none l b = omega arith
 
-  keys-more : (k a b : ℕ) {c : ℕ} → IsSet a (λ t. (l : ℕ) × (l < k) × P l t) → IsSet b (P k) → c ≡ union a b → IsSet c (λ t. (l : ℕ) × (l < k + 1) × P l t)
+  pub keys-more : (k a b : ℕ) {c : ℕ} → IsSet a (λ t. (l : ℕ) × (l < k) × P l t) → IsSet b (P k) → c ≡ union a b → IsSet c (λ t. (l : ℕ) × (l < k + 1) × P l t)
   keys-more k a b {c} p q e t =
       (λ x. out (isSet-union a b p q t .0 (has-as t e x)), λ (l, m, x). has-as t (sym e) (isSet-union a b p q t .1 (back l m x (ℕ-discrete l k))))
     where

@@ -10,3 +10,4 @@ pub mod OpeningView
 pub mod AtOnce
 pub mod Written
 pub mod Rows
+pub mod Downward

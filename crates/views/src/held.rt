@@ -2,6 +2,7 @@
 use crate::Viewed;
 use crate::masks;
 use crate::missing;
+use crate::prefix;
 ghost use mathlib.Core.Path.{_≡_};
 ghost use Prim.Native.Nat.{ℕ, _+_, _<_, _≤_};
 ghost use lib.Dec.{T};
@@ -94,7 +95,8 @@ fn grown(
 }
 
 // Code 11, and the commits of which the masks hold a version: by difference from the client's view at `base`, where the masks hold all of
-// it, and else from the opening view. Two common cases are answered at once: all versions that there are, and the client's view itself.
+// it, and else from the opening view. Three common cases are answered at once: all versions that there are, the client's view itself,
+// and all versions of each key up to some.
 pub fn viewed(
     versions: &[u64],
     keys: &[u64],
@@ -113,6 +115,13 @@ pub fn viewed(
     }
     if masks::same(fresh, views, base, n) {
         return Viewed::Holds(seen);
+    }
+    if prefix::prefixes(fresh, n) {
+        let p = prefix::split(versions, keys, fresh, n);
+        let held = p.held;
+        if held & p.lacking == 0 {
+            return Viewed::Holds(held);
+        }
     }
     if let state::Found::Nothing = masks::lost(fresh, views, base, n) {
         return grown(versions, keys, fresh, views, base, seen, n);

@@ -7,6 +7,7 @@ use Rattle.state.specs.Answers.{placeOf}
 use Rattle.views.proofs.AtOnce.{full-not-half, full-holds-all, same-not-half, same-holds}
 use Rattle.views.proofs.OpeningView.{over-opening, opening-grows}
 use Rattle.views.proofs.Grown.{nothing-lost}
+use Rattle.views.proofs.Downward.{apart-not-half}
 use Rattle.views.proofs.held.viewed.Statement.{statement}
 use Rattle.views.proofs.held.viewed.Tie as tie
 
@@ -32,6 +33,17 @@ returns-2 c = λ s old u m.
     let e = c .before .same2 .ensures .0 (true-T _ (c .if2 .taken)) in
     (same-not-half s old u _ _ _ _ _ _ _ m e, same-holds s old u _ _ _ _ _ _ _ m e)
 
+prefixes-requires : tie.Need-prefixes-requires
+prefixes-requires c κs = search needs
+
+split-requires : tie.Need-split-requires
+split-requires c κs = search needs
+
+returns-3 : tie.Need-returns-3
+returns-3 c = λ s old u m.
+    let x = c .before .before .split .ensures s old u _ _ _ m (c .before .before .before .before .prefixes .ensures (c .before .before .before .if3 .taken)) in
+    (apart-not-half s old u _ _ _ _ _ _ _ m _ _ (x .0) (x .1) (c .if4 .taken), x .0)
+
 lost-requires : tie.Need-lost-requires
 lost-requires c κs = search needs
 
@@ -41,8 +53,8 @@ enum-told c = search needs
 grown-requires : tie.Need-grown-requires
 grown-requires c κs = search needs
 
-returns-3 : tie.Need-returns-3
-returns-3 c = λ s old u m.
+returns-4 : tie.Need-returns-4
+returns-4 c = λ s old u m.
     c .grown .ensures s old u m
     (nothing-lost s old u _ _ _ _ _ _ _ m (sym (ap placeOf (c .before .enum-told .given .1)) ∙ c .before .before .before .lost .ensures s old u (m .arrays .number) (m .view) (m .arrays .in-masks) (m .in-fresh)))
 
@@ -55,8 +67,8 @@ slice-aggregate-grown c = search needs
 grown-requires-2 : tie.Need-grown-requires-2
 grown-requires-2 c κs = search needs
 
-returns-4 : tie.Need-returns-4
-returns-4 c = λ s old u m.
+returns-5 : tie.Need-returns-5
+returns-5 c = λ s old u m.
     c .grown2 .ensures s _ u (over-opening s old u _ _ _ _ _ _ _ m (omega arith) (omega arith)) (opening-grows s old u _ _ _ _ _ _ _ m)
 
 pub viewed-spec : {M : Type 1} → statement M
@@ -69,11 +81,14 @@ viewed-spec =
     returns
     same-requires-2
     returns-2
+    prefixes-requires
+    split-requires
+    returns-3
     lost-requires
     enum-told
     grown-requires
-    returns-3
+    returns-4
     enum-told-2
     slice-aggregate-grown
     grown-requires-2
-    returns-4)
+    returns-5)

@@ -1,10 +1,10 @@
--- `operations::newest` meets its contract. An empty mask has 0 for its highest number. Assumes nothing.
+-- `state::newest` meets its contract. An empty mask has 0 for its highest number. Assumes nothing.
 use mathlib.Core.Path.{sym, ap, _∙_}
 use borrow.Author.Needs.{needs}
 use Rattle.sets.specs.Set.{highest}
-use Rattle.operations.proofs.Reading.{highest-none}
-use Rattle.operations.proofs.newest.Statement.{statement}
-use Rattle.operations.proofs.newest.Tie as tie
+use Rattle.state.proofs.Sets.{highest-none}
+use Rattle.state.proofs.newest.Statement.{statement}
+use Rattle.state.proofs.newest.Tie as tie
 
 highest-requires : tie.Need-highest-requires
 highest-requires c κs = search needs

@@ -1,0 +1,132 @@
+-- `views::prefix::split` meets its contract. The sets so far are those of the keys passed. Assumes nothing.
+use borrow.Author.Needs.{needs}
+use Prim.Native.Nat.{ℕ, _-_, _≤_, _<_}
+use mathlib.Core.Path.{_≡_}
+use mathlib.Core.List.{List}
+use native.Mathlib.Omega.{arith}
+use Rattle.store.specs.Store.{View, Store}
+use Rattle.state.specs.Keeps.{IsSet}
+use Rattle.views.specs.Viewed.{NewMasks}
+use Rattle.views.specs.Prefix.{Prefixes}
+use Rattle.views.proofs.Gathered.{keys-none, keys-more}
+use Rattle.views.proofs.Downward.{HeldAt, LackedAt, later-is, held-is, held-all, lacked-all}
+use Rattle.views.proofs.prefix.split.Statement.{statement}
+use Rattle.views.proofs.prefix.split.Tie as tie
+
+abbrev Inv-loop : tie.InvT-loop
+Inv-loop versions keys fresh n held₀ lacking₀ k₀ held lacking k =
+    (k ≤ n)
+    × ((s : Store) (old u : View) (masks : List ℕ) (base seen : ℕ) (m : NewMasks s old u n versions keys masks base seen fresh) → Prefixes fresh n
+        → IsSet held (λ t. (l : ℕ) × (l < k) × HeldAt s old u n versions keys masks base seen fresh m l t)
+            × IsSet lacking (λ t. (l : ℕ) × (l < k) × LackedAt s old u n versions keys masks base seen fresh m l t))
+
+abbrev μ-loop : tie.MeasureT-loop
+μ-loop versions keys fresh n held₀ lacking₀ k₀ held lacking k = n - k
+
+loop-holds : tie.Need-loop-holds Inv-loop μ-loop
+loop-holds c = (omega arith, λ s old u masks base seen m p. (keys-none (HeldAt s old u _ _ _ masks base seen _ m), keys-none (LackedAt s old u _ _ _ masks base seen _ m)))
+
+mul-writer-of : tie.Need-mul-writer-of Inv-loop μ-loop
+mul-writer-of c = search needs
+
+mul-newest : tie.Need-mul-newest Inv-loop μ-loop
+mul-newest c = search needs
+
+shared-slice-read-newest : tie.Need-shared-slice-read-newest Inv-loop μ-loop
+shared-slice-read-newest c = search needs
+
+newest-requires : tie.Need-newest-requires Inv-loop μ-loop
+newest-requires c κs = search needs
+
+add-writer-of : tie.Need-add-writer-of Inv-loop μ-loop
+add-writer-of c = search needs
+
+mul-writer-of-2 : tie.Need-mul-writer-of-2 Inv-loop μ-loop
+mul-writer-of-2 c = search needs
+
+shared-slice-read-writer-of : tie.Need-shared-slice-read-writer-of Inv-loop μ-loop
+shared-slice-read-writer-of c = search needs
+
+writer-of-requires : tie.Need-writer-of-requires Inv-loop μ-loop
+writer-of-requires c κs = search needs
+
+add-writers : tie.Need-add-writers Inv-loop μ-loop
+add-writers c = search needs
+
+mul-writers : tie.Need-mul-writers Inv-loop μ-loop
+mul-writers c = search needs
+
+shared-slice-read-writers : tie.Need-shared-slice-read-writers Inv-loop μ-loop
+shared-slice-read-writers c = search needs
+
+add-below : tie.Need-add-below Inv-loop μ-loop
+add-below c = search needs
+
+below-requires : tie.Need-below-requires Inv-loop μ-loop
+below-requires c κs = search needs
+
+without-requires : tie.Need-without-requires Inv-loop μ-loop
+without-requires c κs = search needs
+
+without-requires-2 : tie.Need-without-requires-2 Inv-loop μ-loop
+without-requires-2 c κs = search needs
+
+union-requires : tie.Need-union-requires Inv-loop μ-loop
+union-requires c κs = search needs
+
+union-requires-2 : tie.Need-union-requires-2 Inv-loop μ-loop
+union-requires-2 c κs = search needs
+
+add-k : tie.Need-add-k Inv-loop μ-loop
+add-k c = search needs
+
+loop-less : tie.Need-loop-less Inv-loop μ-loop
+loop-less c = search needs
+
+loop-again : tie.Need-loop-again Inv-loop μ-loop
+loop-again c = (
+      omega arith,
+      λ s old u masks base seen m p.
+          let x = c .before .before .before .before .before .before .before .before .before .before .before .loop .inv .1 s old u masks base seen m p in
+          let l = later-is s old u _ _ _ masks base seen _ m p _ (omega arith) (c .before .before .before .before .before .before .before .before .newest .ensures .0) (c .before .before .before .before .before .before .writer-of .ensures .0) (c .before .before .before .before .below .ensures) (c .before .before .before .without .ensures) in
+          let h = held-is s old u _ _ _ masks base seen _ m p _ (omega arith) (c .before .before .before .before .before .before .before .before .newest .ensures .0) (c .before .before .before .before .before .before .writer-of .ensures .0) (c .before .before .before .before .below .ensures) (c .before .before .before .without .ensures) (c .before .before .without2 .ensures) in (
+            keys-more (HeldAt s old u _ _ _ masks base seen _ m) _ _ _ (x .0) h (c .before .union .ensures),
+            keys-more (LackedAt s old u _ _ _ masks base seen _ m) _ _ _ (x .1) l (c .union2 .ensures),
+          ),
+    )
+
+returns : tie.Need-returns Inv-loop μ-loop
+returns c =
+    let e : c .before .loop .k ≡ c .before .before .before .before .before .args .n = omega arith in
+    λ s old u masks base seen m p.
+        let x = c .before .loop .inv .1 s old u masks base seen m p in
+        (held-all s old u _ _ _ masks base seen _ m _ (rw e at (x .0)), lacked-all s old u _ _ _ masks base seen _ m _ (rw e at (x .1)))
+
+pub split-spec : {M : Type 1} → statement M
+split-spec =
+    tie.close
+    (tie.spec
+    Inv-loop
+    μ-loop
+    loop-holds
+    mul-writer-of
+    mul-newest
+    shared-slice-read-newest
+    newest-requires
+    add-writer-of
+    mul-writer-of-2
+    shared-slice-read-writer-of
+    writer-of-requires
+    add-writers
+    mul-writers
+    shared-slice-read-writers
+    add-below
+    below-requires
+    without-requires
+    without-requires-2
+    union-requires
+    union-requires-2
+    add-k
+    loop-less
+    loop-again
+    returns)
