@@ -7,6 +7,8 @@
 //! it goes. It is slow on purpose: it is there to be compared with.
 
 pub mod bench_traces;
+#[cfg(feature = "proved")]
+pub mod beside;
 pub mod facts;
 pub mod files;
 pub mod form;
@@ -30,6 +32,16 @@ pub use text::report;
 pub enum Answer {
     Refused(Refusal),
     Judged(Report),
+}
+
+impl Answer {
+    /// The bench code; 0 where the file was judged.
+    pub fn code(&self) -> u8 {
+        match self {
+            Answer::Refused(refusal) => refusal.code,
+            Answer::Judged(_) => 0,
+        }
+    }
 }
 
 /// One bench code from 1 to 15 with what it names; 0 where it names nothing.

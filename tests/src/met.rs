@@ -45,23 +45,17 @@ impl Met {
 
     /// Counts an answer by its code.
     pub fn answer(&mut self, answer: &Answer) {
-        let code = match answer {
-            Answer::Refused(refusal) => refusal.code,
-            Answer::Judged(_) => 0,
-        };
-        *self.codes.entry(code).or_default() += 1;
+        *self.codes.entry(answer.code()).or_default() += 1;
     }
 
     /// Counts the verdicts on a file that was judged.
     pub fn judged(&mut self, file: &[u8], image_len: usize, verdicts: &[Verdict; 10]) {
-        let mut refused = Vec::new();
         for (level, verdict) in LEVELS.iter().zip(verdicts) {
             if let Verdict::Refused { clause, .. } = verdict {
                 *self.clauses.entry((level.name, *clause)).or_default() += 1;
-                refused.push(level.name);
             }
         }
-        *self.combinations.entry(named(&refused)).or_default() += 1;
+        *self.combinations.entry(refusing(verdicts)).or_default() += 1;
         self.longest_file = self.longest_file.max(file.len());
         self.longest_image = self.longest_image.max(image_len);
     }
@@ -152,11 +146,20 @@ impl Met {
     }
 }
 
-/// The levels that refuse a trace, in report order, as one name.
-fn named(refused: &[&str]) -> String {
-    match refused {
+/// The levels that refuse a trace together, in report order.
+pub fn refusing(verdicts: &[Verdict; 10]) -> String {
+    combination(|place| verdicts[place] != Verdict::Accepted)
+}
+
+/// The names of the levels at the places in report order that refuse.
+fn combination(refuses: impl Fn(usize) -> bool) -> String {
+    let names: Vec<&str> = (0..LEVELS.len())
+        .filter(|&place| refuses(place))
+        .map(|place| LEVELS[place].name)
+        .collect();
+    match names[..] {
         [] => "none".to_string(),
-        _ => refused.join(" "),
+        _ => names.join(" "),
     }
 }
 
@@ -168,12 +171,13 @@ pub fn possible_combinations() -> BTreeSet<String> {
     let mut combinations = BTreeSet::new();
     for failing in 0..1u32 << 8 {
         let fails = |clause: u8| failing >> (clause - 1) & 1 == 1;
-        if implied.iter().all(|&(one, other)| !fails(one) || fails(other)) {
-            let refusing = LEVELS
-                .iter()
-                .filter(|level| level.clauses.iter().any(|&clause| fails(clause)));
-            let names: Vec<&str> = refusing.map(|level| level.name).collect();
-            combinations.insert(named(&names));
+        if implied
+            .iter()
+            .all(|&(one, other)| !fails(one) || fails(other))
+        {
+            combinations.insert(combination(|place| {
+                LEVELS[place].clauses.iter().any(|&clause| fails(clause))
+            }));
         }
     }
     combinations
