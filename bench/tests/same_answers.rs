@@ -150,6 +150,25 @@ fn timed_traces() {
     }
 }
 
+/// The proved judge, as it is timed, on the traces that it is timed with: it
+/// takes them and writes the image that the ordinary judge writes.
+#[cfg(feature = "proved")]
+#[test]
+fn proved_judge_on_timed_traces() {
+    let (_, proved) = bench::proved::proved().expect("it is linked in");
+    let mut judge = Judge::new();
+    for (number, trace) in traces(1, 1_000, 63, 16).iter().enumerate() {
+        let mut image = vec![0xa5; LONGEST];
+        let mut proved_image = vec![0xa5; LONGEST];
+        let Answer::Judged(report) = judge.judge(&trace.bytes, &mut image) else {
+            panic!("trace {number}: not taken");
+        };
+        let answered = proved(&trace.bytes, &mut proved_image);
+        assert_eq!(answered, u64::from(report.image_len) << 8, "trace {number}");
+        assert!(image == proved_image, "trace {number}: image");
+    }
+}
+
 /// The timed traces with one bit changed, short and long ones: refusals deep
 /// inside a file, and other verdicts.
 #[test]

@@ -25,6 +25,7 @@ pub struct VersionNumber(pub usize);
 /// What a trace file is answered with: a bench code from 1 to 15 with what it
 /// names, 0 where it names nothing; or ten verdicts, with the image in the
 /// lent buffer.
+#[allow(clippy::large_enum_variant)] // plain data, copied freely
 #[derive(Clone, Copy, PartialEq, Eq, Debug)]
 pub enum Answer {
     Refused {
