@@ -47,7 +47,8 @@ impl Codes {
     /// file was judged and 0 is not among them.
     fn met(&self, spoiled: &str, codes: &[u64]) {
         println!("{spoiled}, files by code: {:?}", self.0);
-        assert!(codes.contains(&0) || !self.0.contains_key(&0));
+        let judged = self.0.contains_key(&0);
+        assert!(!judged || codes.contains(&0), "a file was judged");
         for code in codes {
             assert!(self.0.contains_key(code), "code {code} was never met");
         }
@@ -95,7 +96,7 @@ fn every_number_of_records() {
     codes.met("first records", &[0, 8, 9, 11, 13]);
 }
 
-/// A file of the greatest length, cut at every hundredth byte.
+/// A file of the greatest length, cut at every 101st byte.
 #[test]
 fn truncations_of_a_full_file() {
     let mut codes = Codes::default();
