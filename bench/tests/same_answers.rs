@@ -3,6 +3,7 @@
 
 use bench::traces::traces;
 use bench::{Answer, Judge, Refusal, Report, Verdict};
+use model::{outcome, Outcome};
 
 /// The longest image there is.
 const LONGEST: usize = 16_960;
@@ -42,14 +43,15 @@ fn expected(answer: model::Answer) -> Answer {
     }
 }
 
-/// Both judges on one file with a buffer of this length: answers and all bytes
-/// of the buffers are the same, and what must be untouched is untouched.
-fn compare(judge: &mut Judge, bytes: &[u8], room: usize, name: &str) -> Answer {
+/// Both judges on one file, of which the model says this, with a buffer of this
+/// length: answers and all bytes of the buffers are the same, and what must be
+/// untouched is untouched.
+fn compare(judge: &mut Judge, bytes: &[u8], outcome: &Outcome, room: usize, name: &str) -> Answer {
     let before: Vec<u8> = (0..room).map(|place| (place * 37 + 11) as u8).collect();
     let mut image = before.clone();
     let mut model_image = before.clone();
     let answer = judge.judge(bytes, &mut image);
-    assert_eq!(answer, expected(model::judge(bytes, &mut model_image)), "{name}");
+    assert_eq!(answer, expected(model::answer(outcome, &mut model_image)), "{name}");
     assert!(image == model_image, "{name}: image");
     let written = match answer {
         Answer::Refused(_) => 0,
@@ -62,11 +64,12 @@ fn compare(judge: &mut Judge, bytes: &[u8], room: usize, name: &str) -> Answer {
 /// One file with a long buffer, and with one that is just long enough and one
 /// that is a byte too short if it is taken.
 fn compare_all(judge: &mut Judge, bytes: &[u8], name: &str) -> Answer {
-    let answer = compare(judge, bytes, LONGEST + 64, name);
+    let outcome = outcome(bytes);
+    let answer = compare(judge, bytes, &outcome, LONGEST + 64, name);
     if let Answer::Judged(report) = answer {
         let needed = report.image_len as usize;
-        assert_eq!(compare(judge, bytes, needed, name), answer, "{name}: exact buffer");
-        let short = compare(judge, bytes, needed - 1, name);
+        assert_eq!(compare(judge, bytes, &outcome, needed, name), answer, "{name}: exact buffer");
+        let short = compare(judge, bytes, &outcome, needed - 1, name);
         assert_eq!(short, Answer::Refused(Refusal::at(15, 0)), "{name}: short buffer");
     }
     answer
@@ -95,7 +98,7 @@ fn generated_files() {
         let name = format!("seed {seed} ({})", case.kind);
         // A short buffer now and then, so that code 15 is met as well.
         let room = if seed % 7 == 0 { room / (1 + seed as usize % 200) } else { room };
-        let answer = compare(&mut judge, &case.bytes, room, &name);
+        let answer = compare(&mut judge, &case.bytes, &outcome(&case.bytes), room, &name);
         codes[code(answer)] += 1;
         if let Answer::Judged(report) = answer {
             for (failures, verdict) in failures.iter_mut().zip(report.verdicts) {
@@ -147,6 +150,25 @@ fn timed_traces() {
     }
 }
 
+/// The proved judge, as it is timed, on the traces that it is timed with: it
+/// takes them and writes the image that the ordinary judge writes.
+#[cfg(feature = "proved")]
+#[test]
+fn proved_judge_on_timed_traces() {
+    let (_, proved) = bench::proved::proved().expect("it is linked in");
+    let mut judge = Judge::new();
+    for (number, trace) in traces(1, 1_000, 63, 16).iter().enumerate() {
+        let mut image = vec![0xa5; LONGEST];
+        let mut proved_image = vec![0xa5; LONGEST];
+        let Answer::Judged(report) = judge.judge(&trace.bytes, &mut image) else {
+            panic!("trace {number}: not taken");
+        };
+        let answered = proved(&trace.bytes, &mut proved_image);
+        assert_eq!(answered, u64::from(report.image_len) << 8, "trace {number}");
+        assert!(image == proved_image, "trace {number}: image");
+    }
+}
+
 /// The timed traces with one bit changed, short and long ones: refusals deep
 /// inside a file, and other verdicts.
 #[test]
@@ -161,7 +183,8 @@ fn spoiled_traces() {
                 let kept = bytes[place];
                 bytes[place] ^= 1 << (change % 8);
                 let name = format!("{commits} commits, {keys} keys, trace {number}, byte {place}");
-                codes[code(compare(&mut judge, &bytes, LONGEST, &name))] += 1;
+                let answer = compare(&mut judge, &bytes, &outcome(&bytes), LONGEST, &name);
+                codes[code(answer)] += 1;
                 bytes[place] = kept;
             }
         }

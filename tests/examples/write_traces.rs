@@ -2,21 +2,20 @@
 //! to where the repository keeps them: `examples/` and `crates/`.
 
 use model::bench_traces::trace_b;
-use model::files::{arguments, files, printed, report_of};
+use model::files::{arguments, at, files, printed, report_of};
 use model::trace::encode;
-use std::{fs, path::Path};
+use std::fs;
 
 fn main() -> std::io::Result<()> {
-    let root = Path::new(env!("CARGO_MANIFEST_DIR")).join("..");
     for folder in ["examples", "crates/vectors/data"] {
-        fs::create_dir_all(root.join(folder))?;
+        fs::create_dir_all(at(folder))?;
         for (name, bench) in files() {
-            fs::write(root.join(folder).join(name), &bench.bytes)?;
+            fs::write(at(folder).join(name), &bench.bytes)?;
         }
     }
-    fs::write(root.join("crates/vectors/args"), arguments())?;
-    fs::write(root.join("crates/vectors/stdout"), printed())?;
+    fs::write(at("crates/vectors/args"), arguments())?;
+    fs::write(at("crates/vectors/stdout"), printed())?;
     let b = encode(&trace_b());
-    fs::write(root.join("crates/judge/stdin"), &b)?;
-    fs::write(root.join("crates/judge/stdout"), report_of(&b))
+    fs::write(at("crates/judge/stdin"), &b)?;
+    fs::write(at("crates/judge/stdout"), report_of(&b))
 }

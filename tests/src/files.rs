@@ -4,6 +4,7 @@
 
 use crate::bench_traces::{all, BenchTrace};
 use crate::{judge, report};
+use std::path::{Path, PathBuf};
 
 /// In the order of `bench_traces::all`.
 pub const NAMES: [&str; 16] = [
@@ -43,6 +44,11 @@ pub fn printed() -> String {
         .iter()
         .map(|(name, bench)| format!("{name}\n{}", report_of(&bench.bytes)))
         .collect()
+}
+
+/// Where a file of the repository stands.
+pub fn at(path: &str) -> PathBuf {
+    Path::new(env!("CARGO_MANIFEST_DIR")).join("..").join(path)
 }
 
 /// The report of one file, with an image buffer that is long enough.

@@ -7,7 +7,7 @@ pub mod mangled;
 pub mod planted;
 pub mod taken;
 
-pub use mangled::mangled;
+pub use mangled::{mangled, with_true_length};
 pub use planted::{competing, planted};
 pub use taken::{build, build_path, exactly_full, largest, Built, Numbering, Rule, Seeing, Style};
 
@@ -23,6 +23,24 @@ pub struct Case {
     pub planted: Vec<Refusal>,
     pub expected: Expected,
 }
+
+/// Every kind of a case.
+pub const KINDS: [&str; 14] = [
+    "taken",
+    "path",
+    "largest",
+    "full",
+    "overfull",
+    "planted",
+    "competing",
+    "cut",
+    "cut, its length true",
+    "a field that lies",
+    "random bytes",
+    "flipped bits",
+    "a record moved",
+    "scrambled",
+];
 
 /// What is known of the answer, the image buffer being long enough.
 #[derive(Clone, PartialEq, Eq, Debug)]
@@ -61,9 +79,9 @@ pub fn case(seed: u64) -> Case {
             }
         }
         800..=997 => {
-            let (bytes, expected) = mangled(&mut random);
+            let (kind, bytes, expected) = mangled(&mut random);
             Case {
-                kind: "mangled",
+                kind,
                 bytes,
                 planted: vec![],
                 expected,

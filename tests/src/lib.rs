@@ -7,12 +7,15 @@
 //! it goes. It is slow on purpose: it is there to be compared with.
 
 pub mod bench_traces;
+#[cfg(feature = "proved")]
+pub mod beside;
 pub mod facts;
 pub mod files;
 pub mod form;
 pub mod generate;
 pub mod image;
 pub mod levels;
+pub mod met;
 pub mod random;
 pub mod relations;
 pub mod run;
@@ -29,6 +32,16 @@ pub use text::report;
 pub enum Answer {
     Refused(Refusal),
     Judged(Report),
+}
+
+impl Answer {
+    /// The bench code; 0 where the file was judged.
+    pub fn code(&self) -> u8 {
+        match self {
+            Answer::Refused(refusal) => refusal.code,
+            Answer::Judged(_) => 0,
+        }
+    }
 }
 
 /// One bench code from 1 to 15 with what it names; 0 where it names nothing.
@@ -77,26 +90,35 @@ pub enum Verdict {
 /// Judges one trace file. With a refusal no byte of `image` changes; otherwise
 /// the store image stands at its start and the bytes after it are as before.
 pub fn judge(trace: &[u8], image: &mut [u8]) -> Answer {
-    match judge_or_refuse(trace, image) {
-        Ok(report) => Answer::Judged(report),
-        Err(refusal) => Answer::Refused(refusal),
-    }
+    answer(&outcome(trace), image)
 }
 
-/// The order of the bench codes: form (1 to 8), meaning (9 to 14), 15 last.
-fn judge_or_refuse(file: &[u8], image: &mut [u8]) -> Result<Report, Refusal> {
+/// What a file comes to before any image buffer is looked at: one of the codes
+/// 1 to 14, or the report of a taken trace and the image of its store.
+pub type Outcome = Result<(Report, Vec<u8>), Refusal>;
+
+/// The order of the bench codes: form (1 to 8), then meaning (9 to 14).
+pub fn outcome(file: &[u8]) -> Outcome {
     let trace = form::read(file)?;
     let run = run::run(&trace)?;
-    let written = image::image(&run.store);
-    if image.len() < written.len() {
-        return Err(Refusal::at(15, 0));
-    }
-    let verdicts = levels::verdicts(&run);
-    image[..written.len()].copy_from_slice(&written);
-    Ok(Report {
-        verdicts,
+    let image = image::image(&run.store);
+    let report = Report {
+        verdicts: levels::verdicts(&run),
         records: trace.records.len(),
         commits: run.steps.len(),
-        image_len: written.len(),
-    })
+        image_len: image.len(),
+    };
+    Ok((report, image))
+}
+
+/// What a lent buffer gets. "15 last": nothing but its length matters.
+pub fn answer(outcome: &Outcome, buffer: &mut [u8]) -> Answer {
+    match outcome {
+        Err(refusal) => Answer::Refused(*refusal),
+        Ok((_, image)) if buffer.len() < image.len() => Answer::Refused(Refusal::at(15, 0)),
+        Ok((report, image)) => {
+            buffer[..image.len()].copy_from_slice(image);
+            Answer::Judged(*report)
+        }
+    }
 }

@@ -2,15 +2,10 @@
 //! not, `cargo run --offline --example write_traces` writes them again.
 
 use model::bench_traces::trace_b;
-use model::files::{arguments, files, printed, report_of};
+use model::files::{arguments, at, files, printed, report_of};
 use model::trace::encode;
 use std::collections::BTreeSet;
 use std::fs;
-use std::path::{Path, PathBuf};
-
-fn at(path: &str) -> PathBuf {
-    Path::new(env!("CARGO_MANIFEST_DIR")).join("..").join(path)
-}
 
 fn kept(path: &str) -> Vec<u8> {
     fs::read(at(path)).unwrap_or_else(|error| panic!("{path}: {error}"))

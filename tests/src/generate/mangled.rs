@@ -8,24 +8,25 @@ use crate::store::{Key, Version, View};
 use crate::trace::{encode, Record, Trace};
 use crate::Refusal;
 
-/// One spoiled file.
-pub fn mangled(random: &mut Random) -> (Vec<u8>, Expected) {
+/// One spoiled file: in which way, its bytes, and what is known of it.
+pub fn mangled(random: &mut Random) -> (&'static str, Vec<u8>, Expected) {
     match random.below(9) {
         0 => {
             let file = encode(&small_trace(random));
             let cut = file[..random.below(file.len())].to_vec();
-            (cut, Expected::Refused(Refusal::at(1, 0)))
+            ("cut", cut, Expected::Refused(Refusal::at(1, 0)))
         }
         1 => {
             let file = encode(&small_trace(random));
             let cut = file[..random.between(4, file.len())].to_vec();
-            (with_true_length(cut), Expected::Anything)
+            let cut = with_true_length(cut);
+            ("cut, its length true", cut, Expected::Anything)
         }
-        2 => (lying(random), Expected::Anything),
-        3 => (random_bytes(random), Expected::Anything),
-        4 => (flipped(random), Expected::Anything),
-        5 => (moved(random), Expected::Anything),
-        _ => (scrambled(random), Expected::Anything),
+        2 => ("a field that lies", lying(random), Expected::Anything),
+        3 => ("random bytes", random_bytes(random), Expected::Anything),
+        4 => ("flipped bits", flipped(random), Expected::Anything),
+        5 => ("a record moved", moved(random), Expected::Anything),
+        _ => ("scrambled", scrambled(random), Expected::Anything),
     }
 }
 
@@ -38,7 +39,8 @@ fn small_trace(random: &mut Random) -> Trace {
     }
 }
 
-fn with_true_length(mut file: Vec<u8>) -> Vec<u8> {
+/// The first field says how long the file is, which has that field whole.
+pub fn with_true_length(mut file: Vec<u8>) -> Vec<u8> {
     let length = file.len() as u32;
     file[..4].copy_from_slice(&length.to_le_bytes());
     file

@@ -1,0 +1,15 @@
+//! Did the store of the trace on standard input keep snapshot isolation?
+use judging::{judge, Answer, Verdict, LONGEST_IMAGE};
+use std::io::{stdin, Read};
+
+fn main() {
+    let mut file = Vec::new();
+    stdin().read_to_end(&mut file).expect("a trace file");
+    match judge(&file, &mut [0; LONGEST_IMAGE]) {
+        Answer::Refused { code, record, .. } => println!("code {code} at record {record}"),
+        Answer::Judged { verdicts, .. } => match verdicts.si {
+            Verdict::Accepted => println!("yes"),
+            Verdict::Refused { record, .. } => println!("no, see record {record}"),
+        },
+    }
+}

@@ -1,0 +1,137 @@
+//! The proved judge beside the model: the same answer to a file, the same
+//! words, and the same bytes in the lent buffer, whatever its length.
+
+use crate::{answer, Answer, Outcome, Verdict};
+use judging::{judge, judge_words, Key, Verdicts, VersionNumber, WORDS};
+
+/// Long enough for every image.
+pub const LONG: usize = 17_000;
+
+/// Words behind those of an answer, which must not be touched.
+const BEHIND: usize = 4;
+const UNTOUCHED: u64 = 0x5A5A_A5A5_5A5A_A5A5;
+
+/// What a buffer has in it beforehand: at places side by side, other bytes.
+fn pattern(length: usize) -> Vec<u8> {
+    (0..length).map(|place| (place * 37 + 11) as u8).collect()
+}
+
+/// Holds the proved judge's answer for a file and a buffer of this length to
+/// what the model says of the file: the code, the words of the answer and those
+/// behind, and every byte of the buffer.
+pub fn compare(name: &str, file: &[u8], outcome: &Outcome, length: usize) -> Answer {
+    let mut due_image = pattern(length);
+    let due = answer(outcome, &mut due_image);
+    let mut due_words = words_of(&due);
+    let due_code = due_words[0];
+    due_words.resize(WORDS + BEHIND, UNTOUCHED);
+
+    let mut image = pattern(length);
+    let mut words = [UNTOUCHED; WORDS + BEHIND];
+    let code = judge_words(file, &mut image, &mut words);
+    assert_eq!(code, due_code, "{name}, buffer of {length}");
+    assert_eq!(words[..], due_words, "{name}, buffer of {length}");
+    assert!(
+        image == due_image,
+        "{name}, buffer of {length}: other bytes"
+    );
+
+    let mut image = pattern(length);
+    let told = judge(file, &mut image);
+    assert_eq!(told, told_of(&due), "{name}, buffer of {length}");
+    assert!(
+        image == due_image,
+        "{name}, buffer of {length}: other bytes"
+    );
+    due
+}
+
+/// Every length of the buffer that is tried with a file: none, half of what is
+/// needed, each from 8 bytes too few to 8 more than enough, and a long one.
+pub fn lengths(outcome: &Outcome) -> Vec<usize> {
+    let mut lengths = vec![LONG, 0];
+    if let Ok((_, image)) = outcome {
+        lengths.push(image.len() / 2);
+        lengths.extend(image.len() - 8..=image.len() + 8);
+    }
+    lengths
+}
+
+/// An answer of the model as words: `crates/judging/specs/Plain.antt`.
+fn words_of(answer: &Answer) -> Vec<u64> {
+    match *answer {
+        Answer::Refused(refusal) => {
+            let named = [refusal.record, refusal.key, refusal.version];
+            let mut words = vec![refusal.code.into()];
+            words.extend(named.map(|number| number as u64));
+            words
+        }
+        Answer::Judged(report) => {
+            let numbers = [0, report.records, report.commits, report.image_len];
+            let mut words = numbers.map(|number| number as u64).to_vec();
+            for verdict in report.verdicts {
+                words.extend(match verdict {
+                    Verdict::Accepted => [0; 4],
+                    Verdict::Refused {
+                        record,
+                        clause,
+                        key,
+                        version,
+                        ..
+                    } => [clause.into(), record as u64, key as u64, version as u64],
+                });
+            }
+            words
+        }
+    }
+}
+
+/// An answer of the model in the types for callers in Rust.
+fn told_of(answer: &Answer) -> judging::Answer {
+    match *answer {
+        Answer::Refused(refusal) => judging::Answer::Refused {
+            code: refusal.code,
+            record: refusal.record,
+            key: Key(refusal.key),
+            version: VersionNumber(refusal.version),
+        },
+        Answer::Judged(report) => {
+            let [mr, mw, ryw, wfr, cc, ua, psi, cp, si, ser] = report.verdicts.map(told_verdict);
+            judging::Answer::Judged {
+                verdicts: Verdicts {
+                    mr,
+                    mw,
+                    ryw,
+                    wfr,
+                    cc,
+                    ua,
+                    psi,
+                    cp,
+                    si,
+                    ser,
+                },
+                records: report.records,
+                commits: report.commits,
+                image_length: report.image_len,
+            }
+        }
+    }
+}
+
+fn told_verdict(verdict: Verdict) -> judging::Verdict {
+    match verdict {
+        Verdict::Accepted => judging::Verdict::Accepted,
+        Verdict::Refused {
+            record,
+            clause,
+            key,
+            version,
+            ..
+        } => judging::Verdict::Refused {
+            record,
+            clause,
+            key: Key(key),
+            version: VersionNumber(version),
+        },
+    }
+}

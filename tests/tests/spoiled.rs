@@ -1,0 +1,197 @@
+//! The proved judge against the model on files that are spoiled in every way of
+//! one sort: each truncation, each length field with each of many lies, each
+//! bit flipped. The files are those of the bench and generated ones.
+
+use model::beside::{compare, LONG};
+use model::files::files;
+use model::generate::{exactly_full, taken_case, with_true_length};
+use model::outcome;
+use model::random::Random;
+use model::trace::encode;
+use std::collections::BTreeMap;
+
+/// The bench's files, and so many taken traces of at most so many bytes.
+fn some_files(number: usize, bytes: usize) -> Vec<(String, Vec<u8>)> {
+    let mut some: Vec<(String, Vec<u8>)> = files()
+        .into_iter()
+        .map(|(name, bench)| (name.to_string(), bench.bytes))
+        .filter(|(_, file)| file.len() <= bytes)
+        .collect();
+    let generated = (0..)
+        .map(|seed| {
+            (
+                format!("taken trace {seed}"),
+                taken_case(&mut Random::seeded(seed)).bytes,
+            )
+        })
+        .filter(|(_, file)| file.len() <= bytes);
+    some.extend(generated.take(number));
+    some
+}
+
+/// Counts the answers by their codes.
+#[derive(Default)]
+struct Codes(BTreeMap<u64, usize>);
+
+impl Codes {
+    /// Compares the answers for one spoiled file.
+    fn spoiled(&mut self, name: &str, file: &[u8]) {
+        let outcome = outcome(file);
+        compare(name, file, &outcome, 0);
+        compare(name, file, &outcome, LONG);
+        let code = outcome.err().map_or(0, |refusal| refusal.code.into());
+        *self.0.entry(code).or_default() += 1;
+    }
+
+    /// Prints the counts; fails if one of these codes was never met, or if a
+    /// file was judged and 0 is not among them.
+    fn met(&self, spoiled: &str, codes: &[u64]) {
+        println!("{spoiled}, files by code: {:?}", self.0);
+        let judged = self.0.contains_key(&0);
+        assert!(!judged || codes.contains(&0), "a file was judged");
+        for code in codes {
+            assert!(self.0.contains_key(code), "code {code} was never met");
+        }
+    }
+}
+
+/// The places of the records after the header, and the end of the file.
+fn places(file: &[u8]) -> Vec<usize> {
+    let mut places = vec![12];
+    let mut at = 12;
+    while at + 2 <= file.len() {
+        at += usize::from(u16::from_le_bytes([file[at], file[at + 1]])).max(1);
+        places.push(at.min(file.len()));
+    }
+    places
+}
+
+#[test]
+fn every_truncation() {
+    let mut codes = Codes::default();
+    for (name, file) in some_files(150, 2_000) {
+        for length in 0..file.len() {
+            let name = format!("{name} cut to {length}");
+            let cut = file[..length].to_vec();
+            codes.spoiled(&name, &cut);
+            if length >= 4 {
+                codes.spoiled(&format!("{name}, its length true"), &with_true_length(cut));
+            }
+        }
+    }
+    codes.met("truncations", &[1, 3]);
+}
+
+/// Cut between two records, with the count and the length of what is left.
+#[test]
+fn every_number_of_records() {
+    let mut codes = Codes::default();
+    for (name, file) in some_files(150, 2_000) {
+        for (count, place) in places(&file).into_iter().enumerate() {
+            let mut cut = file[..place].to_vec();
+            cut[10..12].copy_from_slice(&(count as u16).to_le_bytes());
+            codes.spoiled(&format!("{name}, {count} records"), &with_true_length(cut));
+        }
+    }
+    codes.met("first records", &[0, 8, 9, 11, 13]);
+}
+
+/// A file of the greatest length, cut at every 101st byte.
+#[test]
+fn truncations_of_a_full_file() {
+    let mut codes = Codes::default();
+    let full = encode(&exactly_full(&mut Random::seeded(1)).trace);
+    assert_eq!(full.len(), 65_536);
+    for length in (12..full.len()).step_by(101) {
+        let name = format!("full file cut to {length}");
+        let cut = full[..length].to_vec();
+        codes.spoiled(&name, &cut);
+        codes.spoiled(&format!("{name}, its length true"), &with_true_length(cut));
+    }
+    codes.met("truncations of a full file", &[1, 3]);
+}
+
+/// The fields that say how long something is or how many there are: the place
+/// and the bytes of each.
+fn length_fields(file: &[u8]) -> Vec<(usize, usize)> {
+    let mut fields = vec![(0, 4), (4, 2), (10, 2)];
+    for place in places(file) {
+        if place + 6 <= file.len() {
+            fields.push((place, 2));
+            fields.push((place + 5, 1));
+        }
+    }
+    fields
+}
+
+#[test]
+fn lying_lengths() {
+    let mut codes = Codes::default();
+    for (name, file) in some_files(60, 1_000) {
+        for (at, bytes) in length_fields(&file) {
+            let mut field = [0; 8];
+            field[..bytes].copy_from_slice(&file[at..at + bytes]);
+            let truth = u64::from_le_bytes(field);
+            for lie in lies_about(truth) {
+                let mut lying = file.clone();
+                lying[at..at + bytes].copy_from_slice(&lie.to_le_bytes()[..bytes]);
+                if lying != file {
+                    codes.spoiled(&format!("{name}, {lie} at {at}"), &lying);
+                }
+            }
+        }
+    }
+    codes.met("lying lengths", &[1, 2, 3, 5, 7]);
+}
+
+/// Numbers near to a number, and some far from it.
+fn lies_about(truth: u64) -> Vec<u64> {
+    let mut lies = vec![0, 1, 4, 6, 12, 2 * truth, u64::MAX, u64::MAX / 2];
+    for change in (1..=9).chain([16, 32, 64, 128, 256, 65_536]) {
+        lies.extend([truth.wrapping_add(change), truth.wrapping_sub(change)]);
+    }
+    lies
+}
+
+/// The number of operations and the length that goes with it lie together.
+#[test]
+fn lying_numbers_of_operations() {
+    let mut codes = Codes::default();
+    for (name, file) in some_files(60, 1_000) {
+        let keys = usize::from(file[8]);
+        for place in places(&file) {
+            if place + 10 > file.len() || file[place + 2] != 3 {
+                continue;
+            }
+            for operations in (0..=40).chain([254, 255]) {
+                let length = 10 + 8 * operations + 8 * keys;
+                let mut lying = file.clone();
+                lying[place..place + 2].copy_from_slice(&(length as u16).to_le_bytes());
+                lying[place + 5] = operations as u8;
+                if lying != file {
+                    let name = format!("{name}, {operations} operations at {place}");
+                    codes.spoiled(&name, &lying);
+                }
+            }
+        }
+    }
+    codes.met("lying numbers of operations", &[3, 4, 5, 7]);
+}
+
+#[test]
+fn every_bit_flipped() {
+    let mut codes = Codes::default();
+    for (name, mut file) in some_files(12, 500) {
+        for place in 0..file.len() {
+            for bit in 0..8 {
+                file[place] ^= 1 << bit;
+                codes.spoiled(&format!("{name}, bit {bit} of byte {place}"), &file);
+                file[place] ^= 1 << bit;
+            }
+        }
+    }
+    codes.met(
+        "flipped bits",
+        &[0, 1, 2, 3, 4, 5, 6, 7, 9, 10, 11, 12, 13, 14],
+    );
+}
