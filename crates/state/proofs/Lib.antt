@@ -1,3 +1,4 @@
 pub mod Opening
 pub mod Sets
 pub mod Accesses
+pub mod Gathering

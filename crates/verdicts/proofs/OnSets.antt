@@ -20,11 +20,12 @@ use Rattle.growth.proofs.Sessions.{ReadUpTo}
 use Rattle.growth.proofs.Views.{Lacking}
 use Rattle.growth.proofs.Clauses.{LeadsToHeld}
 use Rattle.state.specs.Places.{numbers}
+use Rattle.state.specs.Rows.{InRows}
 use Rattle.state.specs.Keeps.{IsSet, KeepsKeys, KeepsCommits, KeepsOperations, Step}
 use Rattle.state.proofs.Sets.{isSet-as, isSet-without}
 use Rattle.views.proofs.Codes.{writes-is}
 use Rattle.paths.specs.Path.{LeadsInto}
-use Rattle.verdicts.specs.Sources.{InRows, InKeys, InAnyKey}
+use Rattle.verdicts.specs.Sources.{InKeys, InAnyKey}
 use Rattle.verdicts.specs.Wants.{Lacks, Wants}
 
 -- a key is written where its rank is in the set
