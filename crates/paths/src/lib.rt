@@ -13,7 +13,8 @@ ghost use Rattle.state.specs.Keeps.{IsSet, KeepsLinks, KeepsOperations};
 ghost use Rattle.paths.specs.Path.{LeadsInto};
 ghost use Rattle.paths.specs.Added.{BroughtBelow, Joined, RowOf, LeadOf, AddedKind};
 
-// The commits that lead to a member of the set by one or more steps: a walk over the rows, each taken once.
+// The commits that lead to a member of the set by one or more steps: a walk over the rows, each taken once. A round takes the rows of all
+// that the rounds before it found, so that no row waits for another of its round.
 pub fn leading(links: &[u64], kind: usize, set: u64) -> u64
     requires { ⌜ (length (now links) ≡ 160) × (kind < 2) ⌝ }
     ensures { λ r. ⌜ ((s : Store) → KeepsLinks s (now (links .entry)) → IsSet r (LeadsInto kind s set)) ⌝ }
@@ -22,11 +23,9 @@ pub fn leading(links: &[u64], kind: usize, set: u64) -> u64
     let mut done = 0u64;
     let mut left = set;
     while left != 0 {
-        let t = sets::lowest(left);
-        let row = links[64 * kind + t];
-        all = sets::union(all, row);
-        done = sets::insert(done, t);
-        left = sets::without(sets::union(left, row), done);
+        all = sets::union(all, state::gather(links, 64 * kind, left));
+        done = sets::union(done, left);
+        left = sets::without(all, done);
     }
     all
 }
