@@ -120,10 +120,6 @@ walk-ends {R} {set} {all} {done} w = isSet-as all (λ a. (out a, back a)) (w .ga
 
 -- ---- one round, by what its calls answer
 
--- the lowest number of a set is in it
-pub lowest-waits : (left t : ℕ) → (left ≡ 0 → ⊥) → left < 2 ^ 64 → t ≡ lowest left → T (has left t)
-lowest-waits left t n l e = rw e (has-lowest left (omega arith) l)
-
 -- nothing that is left was taken, so the numbers taken make a larger number
 pub more-done : (done left : ℕ) → ((a : ℕ) → T (has done a) → ¬ T (has left a)) → (left ≡ 0 → ⊥) → left < 2 ^ 64 → {done″ : ℕ} → done″ ≡ union done left → done < done″
 more-done done left apart n l e = let t = has-lowest left (omega arith) l in rw e (union-larger done left (lowest left) t (λ d. apart (lowest left) d t))

@@ -2,3 +2,4 @@ pub mod Opening
 pub mod Sets
 pub mod Accesses
 pub mod Gathering
+pub mod Below
