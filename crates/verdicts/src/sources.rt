@@ -11,12 +11,11 @@ pub fn written(keys: &[u64], ranks: u64, n: usize) -> u64
     ensures { λ r. ⌜ IsSet r (InKeys (now (keys .entry)) ranks n) ⌝ }
 {
     let mut all = 0u64;
-    let mut k: usize = 0;
-    while k < n {
-        if sets::has(ranks, 2 * k + 1) {
-            all = sets::union(all, keys[16 + k]);
-        }
-        k = k + 1;
+    let mut left = state::keys_with(ranks, 1, n);
+    while left != 0 {
+        let k = sets::lowest(left) / 2;
+        all = sets::union(all, keys[16 + k]);
+        left = sets::rest(left);
     }
     all
 }
@@ -26,5 +25,11 @@ pub fn writers(keys: &[u64], n: usize) -> u64
     requires { ⌜ (n ≤ 16) × (length (now keys) ≡ 32) ⌝ }
     ensures { λ r. ⌜ IsSet r (InAnyKey (now (keys .entry)) n) ⌝ }
 {
-    written(keys, 0xffff_ffff_ffff_ffff, n)
+    let mut all = 0u64;
+    let mut k: usize = 0;
+    while k < n {
+        all = sets::union(all, keys[16 + k]);
+        k = k + 1;
+    }
+    all
 }
