@@ -1,5 +1,6 @@
-// The numbers of the store, kept from being swapped by accident, and answers that name a key or a version. The arrays in which the
-// judge keeps a configuration are described in specs/Places.antt (where things stand) and specs/Keeps.antt (what they say).
+// The numbers of the store, kept from being swapped by accident, answers that name a key or a version, and what the loops of several crates
+// share: the keys to go over, and sets gathered from rows. The arrays in which the judge keeps a configuration are described in
+// specs/Places.antt (where things stand) and specs/Keeps.antt (what they say).
 ghost use Prim.Native.Nat.{_+_, _≤_, _<_};
 ghost use lib.ListN.{length};
 ghost use Rattle.state.specs.Accesses.{Left};
