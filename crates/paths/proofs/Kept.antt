@@ -1,5 +1,5 @@
 -- The array with a commit more keeps the links of the store with the commit more. Assumes nothing.
-use Prim.Native.Nat.{ℕ, zero, suc, _+_, _*_, _≤_, _<_}
+use Prim.Native.Nat.{ℕ, zero, suc, _+_, _*_, _<_}
 use mathlib.Core.Path.{_≡_, refl, sym, _∙_, subst}
 use mathlib.Core.Bool.{Bool, true, false}
 use mathlib.Core.Logic.{_⊎_, inl, inr, _↔_, _≢_, Iff·symm, Iff·and}
@@ -7,7 +7,7 @@ use mathlib.Core.List.{List}
 use native.Mathlib.Omega.{arith}
 use native.Mathlib.Decide.{ℕ-discrete}
 use lib.Dec.{T}
-use lib.ListN.{getD}
+use lib.ListN.{length, getD}
 use Rattle.search.specs.Choose.{isSome, when}
 use Rattle.search.proofs.Tests.{same, both}
 use Rattle.sets.specs.Set.{Set, has, union}
@@ -20,7 +20,8 @@ use Rattle.growth.proofs.Steps.{LeadsTo, Brought, brought-by-keys, SessionOrRea
 use Rattle.state.specs.Places.{numbers, linkPlace, leadPlace}
 use Rattle.state.specs.Keeps.{IsSet, ReadKey, FirstLink, Step, KeepsLinks, KeepsOperations}
 use Rattle.state.proofs.Sets.{isSet-as, isSet-union}
-use Rattle.paths.specs.Added.{BroughtBelow, AddedKind}
+use Rattle.paths.specs.Added.{BroughtBelow}
+use Rattle.paths.proofs.Added.{AddedKind}
 
 either-is : {A B C D : Type 0} → A ↔ B → C ↔ D → (A ⊎ C) ↔ (B ⊎ D)
 either-is {A} {B} {C} {D} f g = (into, out)
@@ -106,23 +107,15 @@ module _ (s : Store) (u : View) (c : Commit) (m : Made s u c) where
     pub kind-grows : KeepsKind kind (update s u c) grown
     kind-grows = record { steps = λ t l. row t l (ℕ-discrete t (nextNumber s)); leads = λ k l. lead k (rw keys-stay at l) }
 
--- the other kind, of any store
-kind-stays : (s : Store) (kind other me : ℕ) (first into over ranks : Set) (n : ℕ) (before grown : List ℕ) → s .keys ≤ 16 → other < 2 → other ≢ kind
-    → AddedKind kind me first into over ranks n before grown → KeepsKind other s before → KeepsKind other s grown
-kind-stays s kind other me first into over ranks n before grown few l d a h = record {
-  steps = λ t b. subst (λ (w : ℕ). IsSet w (λ x. Step other s x t)) (sym (a .other-row other l d t b)) (h .steps t b);
-  leads = λ k b. subst (λ (w : ℕ). IsSet w (λ x. (r : ℕ) × ReadKey s k r × FirstLink other s x r)) (sym (a .other-lead other l d k (omega arith))) (h .leads k b);
-}
-
 -- both kinds
-pub links-added : (me : CommitNumber) (so sources earlier over ranks : Set) (n : ℕ) (before mid grown : List ℕ) {first into : Set} → n ≤ 16
+pub links-added : (me : CommitNumber) (so sources earlier over ranks : Set) (n : ℕ) (before grown : List ℕ) {first into : Set} → length grown ≡ length before
     → first ≡ union so sources → into ≡ union first earlier
-    → AddedKind 0 me first into over ranks n before mid → AddedKind 1 me into into over ranks n mid grown
+    → AddedKind 0 me first into over ranks n before grown → AddedKind 1 me into into over ranks n before grown
     → (s : Store) (u : View) (c : Commit) (values : List ℕ) → Made s u c → nextNumber s ≡ me → s .keys ≡ n → KeepsOperations c ranks values
     → IsSet so (FromSession s c) → IsSet sources (FromRead s u c) → IsSet earlier (FromWrite s c) → IsSet over (ToLater s u c)
     → KeepsLinks s before → KeepsLinks (update s u c) grown
-links-added me so sources earlier over ranks n before mid grown {first} {into} few e f a b s u c values m g q o is-so is-sources is-earlier is-over h = record {
-  room = b .long ∙ a .long ∙ h .room;
+links-added me so sources earlier over ranks n before grown {first} {into} long e f a b s u c values m g q o is-so is-sources is-earlier is-over h = record {
+  room = long ∙ h .room;
   steps = λ kind l. (kept kind l) .steps;
   leads = λ kind l. (kept kind l) .leads;
 }
@@ -133,20 +126,10 @@ links-added me so sources earlier over ranks n before mid grown {first} {into} f
     is-into : IsSet into (PlainSource s u c)
     is-into = subst (λ (w : ℕ). IsSet w (PlainSource s u c)) (sym f) (isSet-union first earlier is-first is-earlier)
 
-    a′ : AddedKind 0 (nextNumber s) first into over ranks (s .keys) before mid
-    a′ = rw (g, q) a
-
-    b′ : AddedKind 1 (nextNumber s) into into over ranks (s .keys) mid grown
-    b′ = rw (g, q) b
-
     old : (kind : ℕ) → kind < 2 → KeepsKind kind s before
     old kind l = record { steps = h .steps kind l; leads = h .leads kind l }
 
     kept : (kind : ℕ) → kind < 2 → KeepsKind kind (update s u c) grown
-    kept zero l =
-        kind-stays (update s u c) 1 0 me into into over ranks n mid grown (rw (keys-stay s u c m, q) few) (omega arith) (λ x. absurd (omega arith)) b
-        (kind-grows s u c m 0 first into over ranks values before mid o is-first is-into is-over a′ (old 0 l))
-    kept (suc zero) l =
-        kind-grows s u c m 1 into into over ranks values mid grown o is-into is-into is-over b′
-        (kind-stays s 0 1 me first into over ranks n before mid (rw q few) (omega arith) (λ x. absurd (omega arith)) a (old 1 l))
+    kept zero l = kind-grows s u c m 0 first into over ranks values before grown o is-first is-into is-over (rw (g, q) a) (old 0 l)
+    kept (suc zero) l = kind-grows s u c m 1 into into over ranks values before grown o is-into is-into is-over (rw (g, q) b) (old 1 l)
     kept (suc (suc k)) l = absurd (omega arith)

@@ -1,17 +1,20 @@
 -- A walk against the links of any relation R, from the members of a set to all that lead to one: what holds on the way, and that it ends with
--- everything that leads to a member. `done` are the numbers whose row was taken, `left` those whose row is still to be taken. Assumes nothing.
-use Prim.Native.Nat.{ℕ, _^_, _<_}
-use mathlib.Core.Path.{_≡_, refl, sym, subst}
+-- everything that leads to a member. `done` are the numbers whose row was taken, `left` those whose row is taken in the next round. Assumes nothing.
+use Prim.Native.Nat.{ℕ, _+_, _^_, _<_}
+use mathlib.Core.Path.{_≡_, subst}
 use mathlib.Core.Logic.{_⊎_, inl, inr}
+use mathlib.Core.List.{List}
 use native.Mathlib.Omega.{arith}
 use lib.Dec.{T}
+use lib.ListN.{getD}
 use Rattle.search.proofs.Tests.{same, T?}
-use Rattle.sets.specs.Set.{Set, has, insert, union, without, lowest}
-use Rattle.sets.proofs.Laws.{has-none, has-lowest}
-use Rattle.sets.proofs.Algebra.{without-is, insert-larger}
+use Rattle.sets.specs.Set.{Set, has, union, without, lowest}
+use Rattle.sets.proofs.Laws.{has-none, has-lt, has-lowest}
+use Rattle.sets.proofs.Algebra.{without-is, union-larger}
 use Rattle.relations.specs.Relation.{Plus, one, more}
 use Rattle.state.specs.Keeps.{IsSet}
-use Rattle.state.proofs.Sets.{isSet-as, isSet-union, isSet-insert, isSet-without}
+use Rattle.state.specs.Rows.{InRows}
+use Rattle.state.proofs.Sets.{isSet-as, isSet-union, isSet-without}
 
 -- ---- the closing argument
 
@@ -57,70 +60,49 @@ walk-begins R set = record {
     start a (inl d) = absurd (has-none a d)
     start a (inr m) = inl m
 
--- a row more
-module _ {R : ℕ → ℕ → Type 0} {set all done left : Set} (w : Walked R set all done left)
-    (t : ℕ) (waits : T (has left t)) (row : Set) (is : IsSet row (λ a. R a t)) where
+-- a round more: the rows of all that is left
+module _ {R : ℕ → ℕ → Type 0} {set all done left : Set} (w : Walked R set all done left) (rows : Set) (is : IsSet rows (λ a. (t : ℕ) × T (has left t) × R a t)) where
   abbrev done′ : Set
-  done′ = insert t done
+  done′ = union done left
+
+  abbrev all′ : Set
+  all′ = union all rows
 
   abbrev left′ : Set
-  left′ = without (union left row) done′
+  left′ = without all′ done′
 
-  done-is : IsSet done′ (λ a. (a ≡ t) ⊎ T (has done a))
-  done-is = isSet-insert t done (λ a. same)
+  done-is : IsSet done′ (λ a. T (has done a) ⊎ T (has left a))
+  done-is = isSet-union done left (λ a. same) (λ a. same)
 
-  left-is : IsSet left′ (λ a. (T (has left a) ⊎ R a t) × (¬ T (has done′ a)))
-  left-is = isSet-without (union left row) done′ (isSet-union left row (λ a. same) is) (λ a. same)
-
-  -- what was to be taken is taken or still to be taken
-  taken-or-left : (a : ℕ) → T (has left a) ⊎ R a t → T (has done′ a) ⊎ T (has left′ a)
-  taken-or-left a x = go (T? (has done′ a))
+  all-is : IsSet all′ (λ a. (t : ℕ) × T (has done′ t) × R a t)
+  all-is = isSet-as all′ (λ a. (gather a, λ (t, d, r). ungather a t r (done-is t .0 d))) (isSet-union all rows (w .gathered) is)
     where
-      go : Dec (T (has done′ a)) → T (has done′ a) ⊎ T (has left′ a)
-      go (yes d) = inl d
-      go (no n) = inr (left-is a .1 (x, n))
+      gather : (a : ℕ) → ((t : ℕ) × T (has done t) × R a t) ⊎ ((t : ℕ) × T (has left t) × R a t) → (t : ℕ) × T (has done′ t) × R a t
+      gather a (inl (t, d, r)) = (t, done-is t .1 (inl d), r)
+      gather a (inr (t, l, r)) = (t, done-is t .1 (inr l), r)
 
-  kept : (a : ℕ) → T (has done a) ⊎ T (has left a) → T (has done′ a) ⊎ T (has left′ a)
-  kept a (inl d) = inl (done-is a .1 (inr d))
-  kept a (inr l) = taken-or-left a (inl l)
+      ungather : (a t : ℕ) → R a t → T (has done t) ⊎ T (has left t) → ((t : ℕ) × T (has done t) × R a t) ⊎ ((t : ℕ) × T (has left t) × R a t)
+      ungather a t r (inl d) = inl (t, d, r)
+      ungather a t r (inr l) = inr (t, l, r)
 
-  pub walk-on : Walked R set (union all row) done′ left′
+  left-is : IsSet left′ (λ a. ((t : ℕ) × T (has done′ t) × R a t) × (¬ T (has done′ a)))
+  left-is = isSet-without all′ done′ all-is (λ a. same)
+
+  pub walk-on : Walked R set all′ done′ left′
   walk-on = record {
-    gathered = isSet-as (union all row) (λ a. (gather a, ungather a)) (isSet-union all row (w .gathered) is);
-    begun = λ a m. kept a (w .begun a m);
-    followed = λ a b r d. follow a b r (done-is b .0 d);
+    gathered = all-is;
+    begun = λ a m. inl (done-is a .1 (w .begun a m));
+    followed = λ a t r d. follow a t r d (T? (has done′ a));
     reaches = λ a x. reach a x;
   }
     where
-      gather : (a : ℕ) → ((b : ℕ) × T (has done b) × R a b) ⊎ R a t → (b : ℕ) × T (has done′ b) × R a b
-      gather a (inl (b, d, r)) = (b, done-is b .1 (inr d), r)
-      gather a (inr r) = (t, done-is t .1 (inl refl), r)
-
-      at : (a b : ℕ) → R a b → (b ≡ t) ⊎ T (has done b) → ((b : ℕ) × T (has done b) × R a b) ⊎ R a t
-      at a b r (inl e) = inr (subst (R a) e r)
-      at a b r (inr d) = inl (b, d, r)
-
-      ungather : (a : ℕ) → (b : ℕ) × T (has done′ b) × R a b → ((b : ℕ) × T (has done b) × R a b) ⊎ R a t
-      ungather a (b, d, r) = at a b r (done-is b .0 d)
-
-      follow : (a b : ℕ) → R a b → (b ≡ t) ⊎ T (has done b) → T (has done′ a) ⊎ T (has left′ a)
-      follow a b r (inl e) = taken-or-left a (inr (subst (R a) e r))
-      follow a b r (inr d) = kept a (w .followed a b r d)
-
-      here : Reaches R set t
-      here = w .reaches t (inr waits)
-
-      from-done : (a : ℕ) → (a ≡ t) ⊎ T (has done a) → Reaches R set a
-      from-done a (inl e) = subst (Reaches R set) (sym e) here
-      from-done a (inr d) = w .reaches a (inl d)
-
-      from-left : (a : ℕ) → T (has left a) ⊎ R a t → Reaches R set a
-      from-left a (inl l) = w .reaches a (inr l)
-      from-left a (inr r) = inr (lead-on R set a t r here)
+      follow : (a t : ℕ) → R a t → T (has done′ t) → Dec (T (has done′ a)) → T (has done′ a) ⊎ T (has left′ a)
+      follow a t r d (yes y) = inl y
+      follow a t r d (no n) = inr (left-is a .1 ((t, d, r), n))
 
       reach : (a : ℕ) → T (has done′ a) ⊎ T (has left′ a) → Reaches R set a
-      reach a (inl d) = from-done a (done-is a .0 d)
-      reach a (inr l) = from-left a (left-is a .0 l .0)
+      reach a (inl d) = w .reaches a (done-is a .0 d)
+      reach a (inr l) = let (t, d, r) = left-is a .0 l .0 in inr (lead-on R set a t r (w .reaches t (done-is t .0 d)))
 
 -- at the end everything that leads to a member has been gathered, and nothing else
 pub walk-ends : {R : ℕ → ℕ → Type 0} {set all done : Set} → Walked R set all done 0 → IsSet all (λ a. (t : ℕ) × T (has set t) × Plus R a t)
@@ -136,20 +118,18 @@ walk-ends {R} {set} {all} {done} w = isSet-as all (λ a. (out a, back a)) (w .ga
     back : (a : ℕ) → (t : ℕ) × T (has set t) × Plus R a t → (t : ℕ) × T (has done t) × R a t
     back a (t, m, p) = first-link {R = R} {N = λ x. T (has done x)} (λ x y r d. only-done x (w .followed x y r d)) p (only-done t (w .begun t m))
 
--- ---- one turn of the loop, by what its calls answer
+-- ---- one round, by what its calls answer
 
--- the number that is taken was to be taken
-pub lowest-waits : (left t : ℕ) → (left ≡ 0 → ⊥) → left < 2 ^ 64 → t ≡ lowest left → T (has left t)
-lowest-waits left t n l e = rw e (has-lowest left (omega arith) l)
-
--- it was not yet taken, so the numbers taken make a larger number
-pub more-done : (done left t : ℕ) → ((a : ℕ) → T (has done a) → ¬ T (has left a)) → T (has left t) → {done″ : ℕ} → done″ ≡ insert t done → done < done″
-more-done done left t apart waits e = rw e (insert-larger t done (λ d. apart t d waits))
+-- nothing that is left was taken, so the numbers taken make a larger number
+pub more-done : (done left : ℕ) → ((a : ℕ) → T (has done a) → ¬ T (has left a)) → (left ≡ 0 → ⊥) → left < 2 ^ 64 → {done″ : ℕ} → done″ ≡ union done left → done < done″
+more-done done left apart n l e = let t = has-lowest left (omega arith) l in rw e (union-larger done left (lowest left) t (λ d. apart (lowest left) d t))
 
 -- what is to be taken was not taken
-pub still-apart : (both done : ℕ) {left : ℕ} → left ≡ without both done → (a : ℕ) → T (has done a) → ¬ T (has left a)
-still-apart both done {left} e a d l = without-is both done a .0 (subst (λ (x : ℕ). T (has x a)) e l) .1 d
+pub still-apart : (all done : ℕ) {left : ℕ} → left ≡ without all done → (a : ℕ) → T (has done a) → ¬ T (has left a)
+still-apart all done {left} e a d l = without-is all done a .0 (subst (λ (x : ℕ). T (has x a)) e l) .1 d
 
-pub walk-turn : {R : ℕ → ℕ → Type 0} {set all done left : Set} → Walked R set all done left → (t : ℕ) → T (has left t) → (row : Set) → IsSet row (λ a. R a t)
-    → {all″ done″ both left″ : Set} → all″ ≡ union all row → done″ ≡ insert t done → both ≡ union left row → left″ ≡ without both done″ → Walked R set all″ done″ left″
-walk-turn w t waits row is e f g h = rw (e, h, g, f) (walk-on w t waits row is)
+pub walk-turn : {R : ℕ → ℕ → Type 0} {set all done left : Set} → Walked R set all done left → left < 2 ^ 64
+    → (links : List ℕ) (from : ℕ) → ((t : ℕ) → t < 64 → IsSet (getD links (from + t) 0) (λ a. R a t)) → (rows : Set) → IsSet rows (InRows links from left)
+    → {all″ done″ left″ : Set} → all″ ≡ union all rows → done″ ≡ union done left → left″ ≡ without all″ done″ → Walked R set all″ done″ left″
+walk-turn {left = left} w l links from row rows is e f g =
+    rw (g, e, f) (walk-on w rows (isSet-as rows (λ a. (λ (t, m, x). (t, m, row t (has-lt 64 left t l m) a .0 x), λ (t, m, r). (t, m, row t (has-lt 64 left t l m) a .1 r))) is))

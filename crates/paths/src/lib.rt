@@ -11,9 +11,10 @@ ghost use Rattle.growth.proofs.Made.{Made};
 ghost use Rattle.growth.proofs.Links.{FromSession, FromRead, FromWrite, ToLater};
 ghost use Rattle.state.specs.Keeps.{IsSet, KeepsLinks, KeepsOperations};
 ghost use Rattle.paths.specs.Path.{LeadsInto};
-ghost use Rattle.paths.specs.Added.{BroughtBelow, Joined, RowOf, LeadOf, AddedKind};
+ghost use Rattle.paths.specs.Added.{BroughtBelow, Joined, RowsOf, LeadsOf};
 
-// The commits that lead to a member of the set by one or more steps: a walk over the rows, each taken once.
+// The commits that lead to a member of the set by one or more steps: a walk over the rows, each taken once. A round takes the rows of all
+// that the rounds before it found, so that no row waits for another of its round.
 pub fn leading(links: &[u64], kind: usize, set: u64) -> u64
     requires { ⌜ (length (now links) ≡ 160) × (kind < 2) ⌝ }
     ensures { λ r. ⌜ ((s : Store) → KeepsLinks s (now (links .entry)) → IsSet r (LeadsInto kind s set)) ⌝ }
@@ -22,82 +23,65 @@ pub fn leading(links: &[u64], kind: usize, set: u64) -> u64
     let mut done = 0u64;
     let mut left = set;
     while left != 0 {
-        let t = sets::lowest(left);
-        let row = links[64 * kind + t];
-        all = sets::union(all, row);
-        done = sets::insert(done, t);
-        left = sets::without(sets::union(left, row), done);
+        all = sets::union(all, state::gather(links, 64 * kind, left));
+        done = sets::union(done, left);
+        left = sets::without(all, done);
     }
     all
 }
 
-// What the readers of the keys that are written bring along.
-fn brought(links: &[u64], kind: usize, ranks: u64, n: usize) -> u64
-    requires { ⌜ (length (now links) ≡ 160) × (kind < 2) × (n ≤ 16) ⌝ }
-    ensures { λ r. ⌜ IsSet r (BroughtBelow kind (now (links .entry)) ranks n) ⌝ }
+// What the readers of the keys that are written bring along, for clause 6 and for clause 7.
+struct Leads {
+    prefix: u64,
+    snapshot: u64,
+}
+
+fn brought(links: &[u64], ranks: u64, n: usize) -> Leads
+    requires { ⌜ (length (now links) ≡ 160) × (n ≤ 16) ⌝ }
+    ensures { λ r. ⌜ IsSet (r .prefix) (BroughtBelow 0 (now (links .entry)) ranks n) × IsSet (r .snapshot) (BroughtBelow 1 (now (links .entry)) ranks n) ⌝ }
 {
-    let mut all = 0u64;
-    let mut k: usize = 0;
-    while k < n {
-        if sets::has(ranks, 2 * k + 1) {
-            all = sets::union(all, links[128 + (16 * kind + k)]);
-        }
-        k = k + 1;
+    let mut prefix = 0u64;
+    let mut snapshot = 0u64;
+    let mut left = state::keys_with(ranks, 1, n);
+    while left != 0 {
+        let k = sets::lowest(left) / 2;
+        prefix = sets::union(prefix, links[128 + k]);
+        snapshot = sets::union(snapshot, links[144 + k]);
+        left = sets::rest(left);
     }
-    all
+    Leads { prefix, snapshot }
 }
 
-// Each commit of `over` gains steps from `first`.
-fn point(links: &mut [u64], kind: usize, over: u64, first: u64)
-    requires { ⌜ (length (now links) ≡ 160) × (kind < 2) ⌝ }
-    ensures { λ _. ⌜ Joined (RowOf kind over) first (now (links .entry)) (now (links .exit)) ⌝ }
+// Each commit of `over` gains steps: from `first` for clause 6, from `into` for clause 7.
+fn point(links: &mut [u64], over: u64, first: u64, into: u64)
+    requires { ⌜ length (now links) ≡ 160 ⌝ }
+    ensures { λ _. ⌜ Joined (RowsOf over first into) (now (links .entry)) (now (links .exit)) ⌝ }
 {
     let mut left = over;
     while left != 0 {
-        let at = 64 * kind + sets::lowest(left);
-        links[at] = sets::union(links[at], first);
+        let t = sets::lowest(left);
+        links[t] = sets::union(links[t], first);
+        links[64 + t] = sets::union(links[64 + t], into);
         left = sets::rest(left);
     }
 }
 
-// Each key that is read gains `first` among what its readers bring along.
-fn bring(links: &mut [u64], kind: usize, ranks: u64, n: usize, first: u64)
-    requires { ⌜ (length (now links) ≡ 160) × (kind < 2) × (n ≤ 16) ⌝ }
-    ensures { λ _. ⌜ Joined (LeadOf kind ranks n) first (now (links .entry)) (now (links .exit)) ⌝ }
+// Each key that is read gains these among what its readers bring along.
+fn bring(links: &mut [u64], ranks: u64, n: usize, first: u64, into: u64)
+    requires { ⌜ (length (now links) ≡ 160) × (n ≤ 16) ⌝ }
+    ensures { λ _. ⌜ Joined (LeadsOf ranks n first into) (now (links .entry)) (now (links .exit)) ⌝ }
 {
-    let mut k: usize = 0;
-    while k < n {
-        if sets::has(ranks, 2 * k) {
-            let at = 128 + (16 * kind + k);
-            links[at] = sets::union(links[at], first);
-        }
-        k = k + 1;
+    let mut left = state::keys_with(ranks, 0, n);
+    while left != 0 {
+        let k = sets::lowest(left) / 2;
+        links[128 + k] = sets::union(links[128 + k], first);
+        links[144 + k] = sets::union(links[144 + k], into);
+        left = sets::rest(left);
     }
 }
 
-// The links of one kind with the commit `me`: `into` are the commits from which a link leads to it, `first` those from which a link does that
-// RW may follow.
-fn add_kind(
-    links: &mut [u64],
-    kind: usize,
-    me: usize,
-    first: u64,
-    into: u64,
-    over: u64,
-    ranks: u64,
-    n: usize,
-)
-    requires { ⌜ (length (now links) ≡ 160) × (kind < 2) × (me < 64) × (n ≤ 16) ⌝ }
-    ensures { λ _. ⌜ AddedKind kind me first into over ranks n (now (links .entry)) (now (links .exit)) ⌝ }
-{
-    let more = brought(links, kind, ranks, n);
-    point(links, kind, over, first);
-    links[64 * kind + me] = sets::union(into, more);
-    bring(links, kind, ranks, n, first);
-}
-
 // The links with the commit `me`, whose operations have the given ranks, on keys below n: SO leads to it from `so`, WR from `sources` and WW from
-// `earlier`, and RW leads from it to `over`.
+// `earlier`, and RW leads from it to `over`. RW may follow SO and WR for clause 6, and WW too for clause 7; any of the three leads to it alone.
 pub fn add(
     links: &mut [u64],
     me: usize,
@@ -117,6 +101,9 @@ pub fn add(
 {
     let first = sets::union(so, sources);
     let into = sets::union(first, earlier);
-    add_kind(links, 0, me, first, into, over, ranks, n);
-    add_kind(links, 1, me, into, into, over, ranks, n);
+    let more = brought(links, ranks, n);
+    point(links, over, first, into);
+    links[me] = sets::union(into, more.prefix);
+    links[64 + me] = sets::union(into, more.snapshot);
+    bring(links, ranks, n, first, into);
 }

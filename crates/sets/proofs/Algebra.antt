@@ -10,10 +10,10 @@ use native.Mathlib.Decide.{decLt}
 use lib.Dec.{T, eqb, eqb→eq, ltb}
 use lib.Bits.{bitAnd, bitOr, differ, or-comm, or-lt, or-add-and, xor-lt, and-le-l, and-le-r, or-shifted-r}
 use lib.Pow.{pow-pos, pow-lt, mod-pow-add}
-use Rattle.search.proofs.Tests.{same, eq-test, and-is, not-is, stable, lt-is}
+use Rattle.search.proofs.Tests.{same, or-right, eq-test, and-is, not-is, stable, lt-is}
 use Rattle.sets.specs.Set.{Set, has, insert, single, union, without, below}
 use Rattle.sets.proofs.Digits.{digit, at-place, digit-and, digit-or, digit-xor}
-use Rattle.sets.proofs.Laws.{has-none, single-has, single-only, insert-self, has-below, below-has, below-small}
+use Rattle.sets.proofs.Laws.{has-none, single-has, single-only, has-below, below-has, below-small}
 
 -- two tests that hold together are equal
 same-test : (a b : Bool) → (T a → T b) → (T b → T a) → a ≡ b
@@ -122,11 +122,12 @@ full-is n m h = (λ e i l. below-is n m .0 e i .1 l, λ f. below-is n m .1 (λ i
 
 -- ---- a set that grows is a larger number
 
-pub insert-larger : (t m : ℕ) → ¬ T (has m t) → m < insert t m
-insert-larger t m n = go (decLt m (insert t m))
+pub union-larger : (a b t : ℕ) → T (has b t) → ¬ T (has a t) → a < union a b
+unfolding union
+union-larger a b t h n = go (decLt a (union a b))
   where
-    go : Dec (m < insert t m) → m < insert t m
+    go : Dec (a < union a b) → a < union a b
     go (yes l) = l
     go (no x) =
-        let e : insert t m ≡ m = omega (arith, or-add-and m (single t), and-le-r m (single t)) in
-        absurd (n (subst (λ (y : ℕ). T (has y t)) e (insert-self t m)))
+        let e : union a b ≡ a = omega (arith, or-add-and a b, and-le-r a b) in
+        absurd (n (subst (λ (y : ℕ). T (has y t)) e (subst T (sym (has-union a b t)) (or-right (has a t) (has b t) h))))

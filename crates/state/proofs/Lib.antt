@@ -1,3 +1,5 @@
 pub mod Opening
 pub mod Sets
 pub mod Accesses
+pub mod Gathering
+pub mod Below

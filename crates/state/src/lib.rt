@@ -1,9 +1,13 @@
-// The numbers of the store, kept from being swapped by accident, and answers that name a key or a version. The arrays in which the
-// judge keeps a configuration are described in specs/Places.antt (where things stand) and specs/Keeps.antt (what they say).
+// The numbers of the store, kept from being swapped by accident, answers that name a key or a version, and what the loops of several crates
+// share: the keys to go over, and sets gathered from rows. The arrays in which the judge keeps a configuration are described in
+// specs/Places.antt (where things stand) and specs/Keeps.antt (what they say).
 ghost use mathlib.Core.Path.{_≡_};
-ghost use Prim.Native.Nat.{_≤_, _<_};
+ghost use Prim.Native.Nat.{_+_, _≤_, _<_};
+ghost use lib.ListN.{length};
 ghost use Rattle.sets.specs.Set.{highest};
 ghost use Rattle.state.specs.Accesses.{Left};
+ghost use Rattle.state.specs.Keeps.{IsSet};
+ghost use Rattle.state.specs.Rows.{InRows};
 
 // The number of a key.
 pub struct Key(pub usize);
@@ -40,4 +44,19 @@ pub fn keys_with(ranks: u64, access: usize, n: usize) -> u64
     ensures { λ r. ⌜ Left ranks access n 0 r ⌝ }
 {
     (ranks >> access) & 0x5555_5555_5555_5555 & sets::below(2 * n)
+}
+
+// All that is in the rows of the members of a set; the row of number t stands at from + t.
+pub fn gather(rows: &[u64], from: usize, set: u64) -> u64
+    requires { ⌜ from + 64 ≤ length (now rows) ⌝ }
+    ensures { λ r. ⌜ IsSet r (InRows (now (rows .entry)) from set) ⌝ }
+{
+    let mut all = 0u64;
+    let mut left = set;
+    while left != 0 {
+        let t = sets::lowest(left);
+        all = sets::union(all, rows[from + t]);
+        left = sets::rest(left);
+    }
+    all
 }

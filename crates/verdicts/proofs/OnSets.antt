@@ -20,11 +20,12 @@ use Rattle.growth.proofs.Sessions.{ReadUpTo}
 use Rattle.growth.proofs.Views.{Lacking}
 use Rattle.growth.proofs.Clauses.{LeadsToHeld}
 use Rattle.state.specs.Places.{numbers}
+use Rattle.state.specs.Rows.{InRows}
 use Rattle.state.specs.Keeps.{IsSet, KeepsKeys, KeepsCommits, KeepsOperations, Step}
 use Rattle.state.proofs.Sets.{isSet-as, isSet-without}
 use Rattle.views.proofs.Codes.{writes-is}
 use Rattle.paths.specs.Path.{LeadsInto}
-use Rattle.verdicts.specs.Sources.{InRows, InKeys, InAnyKey}
+use Rattle.verdicts.specs.Sources.{InKeys, InAnyKey}
 use Rattle.verdicts.specs.Wants.{Lacks, Wants}
 
 -- a key is written where its rank is in the set
@@ -60,8 +61,8 @@ module _ (s : Store) (u : View) (seen : Set) (h : IsSet seen (Holds (history s) 
   pub written-is : (c : Commit) (keys : List ℕ) (ranks : Set) (values : List ℕ) (n r : ℕ) → s .keys ≡ n → SoundStore s → KeepsKeys s keys → KeepsOperations c ranks values
       → IsSet r (InKeys keys ranks n) → IsSet r (FromWrite s c)
   written-is c keys ranks values n r e sound kept ops = isSet-as r (λ a. (
-    λ (k, l, x, y). (k, writes-ranked ops k .1 x, kept .writers k (rw e l) a .0 y),
-    λ (k, x, (i, w)). let l = sound .only-keys k i (w .0) in (k, rw (← e) l, writes-ranked ops k .0 x, kept .writers k l a .1 (i, w)),
+    λ (k, l, (x, y)). (k, writes-ranked ops k .1 x, kept .writers k (rw e l) a .0 y),
+    λ (k, x, (i, w)). let l = sound .only-keys k i (w .0) in (k, rw (← e) l, (writes-ranked ops k .0 x, kept .writers k l a .1 (i, w))),
   ))
 
   -- those that lead to what the view holds

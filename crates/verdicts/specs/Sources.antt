@@ -7,13 +7,9 @@ use Rattle.sets.specs.Set.{Set, has}
 use Rattle.store.specs.Store.{Key, CommitNumber}
 use Rattle.state.specs.Places.{writersPlace}
 
--- a is in the row of a member of the set; the row of number t stands at from + t
-abbrev pub InRows : List ℕ → ℕ → Set → CommitNumber → Type 0
-InRows rows from set a = (t : CommitNumber) × T (has set t) × T (has (getD rows (from + t) 0) a)
-
 -- a is among the writers of a key below n that has a write among the ranks
 abbrev pub InKeys : List ℕ → Set → ℕ → CommitNumber → Type 0
-InKeys keys ranks n a = (k : Key) × (k < n) × T (has ranks (2 * k + 1)) × T (has (getD keys (writersPlace k) 0) a)
+InKeys keys ranks n a = (k : Key) × (k < n) × (T (has ranks (2 * k + 1)) × T (has (getD keys (writersPlace k) 0) a))
 
 -- a is among the writers of a key below n
 abbrev pub InAnyKey : List ℕ → ℕ → CommitNumber → Type 0

@@ -44,8 +44,8 @@ pub fn wanted(
     }
     Wanted {
         lacking,
-        before: sources::gather(commits, 64, seen),
-        read: sources::gather(commits, 128, seen),
+        before: state::gather(commits, 64, seen),
+        read: state::gather(commits, 128, seen),
         written: sources::written(keys, ranks, n),
         prefix: paths::leading(links, 0, seen),
         snapshot: paths::leading(links, 1, seen),

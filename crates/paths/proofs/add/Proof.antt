@@ -1,5 +1,9 @@
 -- `paths::add` meets its contract. Assumes nothing.
+use mathlib.Core.Path.{_∙_}
+use native.Mathlib.Omega.{arith}
+use lib.ListN.{length-set}
 use borrow.Author.Needs.{needs}
+use Rattle.paths.proofs.Added.{added}
 use Rattle.paths.proofs.Kept.{links-added}
 use Rattle.paths.proofs.add.Statement.{statement}
 use Rattle.paths.proofs.add.Tie as tie
@@ -10,17 +14,45 @@ union-requires c κs = search needs
 union-requires-2 : tie.Need-union-requires-2
 union-requires-2 c κs = search needs
 
-add-kind-requires : tie.Need-add-kind-requires
-add-kind-requires c κs = search needs
+brought-requires : tie.Need-brought-requires
+brought-requires c κs = search needs
 
-add-kind-requires-2 : tie.Need-add-kind-requires-2
-add-kind-requires-2 c κs = search needs
+point-requires : tie.Need-point-requires
+point-requires c κs = search needs
+
+union-requires-3 : tie.Need-union-requires-3
+union-requires-3 c κs = search needs
+
+mul-links : tie.Need-mul-links
+mul-links c = search needs
+
+slice-write-links : tie.Need-slice-write-links
+slice-write-links c = search needs
+
+union-requires-4 : tie.Need-union-requires-4
+union-requires-4 c κs = search needs
+
+add-links : tie.Need-add-links
+add-links c = search needs
+
+mul-links-2 : tie.Need-mul-links-2
+mul-links-2 c = search needs
+
+slice-write-links-2 : tie.Need-slice-write-links-2
+slice-write-links-2 c = simp length-set (omega (arith, c .before .before .before .before .point .ensures .long))
+
+bring-requires : tie.Need-bring-requires
+bring-requires c κs = simp length-set (omega (arith, c .before .before .before .before .before .point .ensures .long))
 
 same-length : tie.Need-same-length
-same-length c = search needs
+same-length c = c .before .before .bring .ensures .long ∙ simp length-set (c .before .before .before .before .before .before .before .before .point .ensures .long)
 
 returns : tie.Need-returns
-returns c = links-added _ _ _ _ _ _ _ _ _ _ (c .before .before .before .before .before .before .before .before .before .before .before .pre .2) (c .before .before .before .before .before .before .before .before .before .union .ensures) (c .before .before .before .before .before .before .before .before .union2 .ensures) (c .before .before .before .before .before .before .add-kind .ensures) (c .before .before .add-kind2 .ensures)
+returns c =
+    let a = c .before .before .before .before .before .before .before .before .before .before .before .before .before .before .before in
+    let b = c .before .before .before .before .before .before .before .before .before .before .brought .ensures in
+    let g = added _ _ _ _ _ _ (a .pre .1) (a .pre .2) (a .fits .over .fits) _ _ _ (a .pre .0) _ _ (c .before .before .before .before .before .before .before .before .point .ensures) (c .before .before .bring .ensures) _ _ (b .0) (b .1) (c .before .before .before .before .before .union3 .ensures) (c .before .before .before .before .union4 .ensures) in
+    links-added _ _ _ _ _ _ _ _ _ (g .0) (c .before .before .before .before .before .before .before .before .before .before .before .before .before .union .ensures) (c .before .before .before .before .before .before .before .before .before .before .before .before .union2 .ensures) (g .1) (g .2)
 
 pub add-spec : {M : Type 1} → statement M
 add-spec =
@@ -28,7 +60,15 @@ add-spec =
     (tie.spec
     union-requires
     union-requires-2
-    add-kind-requires
-    add-kind-requires-2
+    brought-requires
+    point-requires
+    union-requires-3
+    mul-links
+    slice-write-links
+    union-requires-4
+    add-links
+    mul-links-2
+    slice-write-links-2
+    bring-requires
     same-length
     returns)

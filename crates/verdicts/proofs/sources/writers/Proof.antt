@@ -1,14 +1,59 @@
--- `verdicts::sources::writers` meets its contract. Assumes nothing.
+-- `verdicts::sources::writers` meets its contract. The loop's invariant: the writers of the keys below k are gathered. Assumes nothing.
+use Prim.Native.Nat.{_-_, _≤_}
+use mathlib.Core.Path.{_≡_}
+use native.Mathlib.Omega.{arith}
 use borrow.Author.Needs.{needs}
-use Rattle.verdicts.proofs.Gathering.{any-key}
+use Rattle.state.specs.Keeps.{IsSet}
+use Rattle.verdicts.specs.Sources.{InAnyKey}
+use Rattle.verdicts.proofs.Gathering.{any-key-none, any-key-turn}
 use Rattle.verdicts.proofs.sources.writers.Statement.{statement}
 use Rattle.verdicts.proofs.sources.writers.Tie as tie
 
-written-requires : tie.Need-written-requires
-written-requires c κs = search needs
+abbrev Inv-loop : tie.InvT-loop
+Inv-loop keys n all₀ k₀ all k = (k ≤ n) × IsSet all (InAnyKey keys k)
 
-returns : tie.Need-returns
-returns c = any-key (c .before .before .args .keys .now) (c .before .before .args .n) (c .written .result) (search needs) (c .written .ensures)
+abbrev μ-loop : tie.MeasureT-loop
+μ-loop keys n all₀ k₀ all k = n - k
+
+loop-holds : tie.Need-loop-holds Inv-loop μ-loop
+loop-holds c = (omega arith, any-key-none (c .before .args .keys .now))
+
+add-union : tie.Need-add-union Inv-loop μ-loop
+add-union c = search needs
+
+mul-union : tie.Need-mul-union Inv-loop μ-loop
+mul-union c = search needs
+
+shared-slice-read-union : tie.Need-shared-slice-read-union Inv-loop μ-loop
+shared-slice-read-union c = search needs
+
+union-requires : tie.Need-union-requires Inv-loop μ-loop
+union-requires c κs = search needs
+
+add-k : tie.Need-add-k Inv-loop μ-loop
+add-k c = search needs
+
+loop-less : tie.Need-loop-less Inv-loop μ-loop
+loop-less c = search needs
+
+loop-again : tie.Need-loop-again Inv-loop μ-loop
+loop-again c = (omega arith, any-key-turn (c .before .before .before .before .before .args .keys .now) _ _ (c .before .before .before .loop .inv .1) (c .union .ensures))
+
+returns : tie.Need-returns Inv-loop μ-loop
+returns c = let e : c .before .loop .k ≡ c .before .before .before .args .n = omega arith in rw (← e) (c .before .loop .inv .1)
 
 pub writers-spec : {M : Type 1} → statement M
-writers-spec = tie.close (tie.spec written-requires returns)
+writers-spec =
+    tie.close
+    (tie.spec
+    Inv-loop
+    μ-loop
+    loop-holds
+    add-union
+    mul-union
+    shared-slice-read-union
+    union-requires
+    add-k
+    loop-less
+    loop-again
+    returns)

@@ -1,10 +1,10 @@
--- `verdicts::sources::gather` meets its contract. The loop's invariant: what is gathered, with what is in the rows that are left, is all. Assumes nothing.
+-- `state::gather` meets its contract. The loop's invariant: what is gathered, with what is in the rows that are left, is all. Assumes nothing.
 use Prim.Native.Nat.{_+_, _^_, _≤_, _<_}
 use lib.ListN.{length}
 use borrow.Author.Needs.{needs}
-use Rattle.verdicts.proofs.Gathering.{Gathering, gathering-starts, gathering-on, gathering-ends}
-use Rattle.verdicts.proofs.sources.gather.Statement.{statement}
-use Rattle.verdicts.proofs.sources.gather.Tie as tie
+use Rattle.state.proofs.Gathering.{Gathering, gathering-starts, gathering-on, gathering-ends}
+use Rattle.state.proofs.gather.Statement.{statement}
+use Rattle.state.proofs.gather.Tie as tie
 
 abbrev Inv-loop : tie.InvT-loop
 Inv-loop rows from set all₀ left₀ all left = (from + 64 ≤ length rows) × (left < 2 ^ 64) × Gathering rows from set all left
