@@ -1,5 +1,4 @@
 pub mod Reading
-pub mod Gather
 pub mod PerKey
 pub mod Rows
 pub mod Noted

@@ -21,9 +21,9 @@ use Rattle.state.specs.Keeps.{IsSet, KeepsKeys, WroteKey}
 use Rattle.state.specs.Accesses.{Left}
 use Rattle.state.proofs.Sets.{isSet-as, isSet-single, isSet-without}
 use Rattle.state.proofs.Accesses.{next-key, left-none}
+use Rattle.state.proofs.Below.{From, from-turn, from-passed}
 use Rattle.operations.specs.Given.{Given, Writing}
 use Rattle.operations.specs.PerKey.{readAt, laterAt, writtenAt}
-use Rattle.operations.proofs.Gather.{UpTo, gather-more, gather-skip}
 use Rattle.operations.proofs.Reading.{reads-rank, writes-rank, seen-exists}
 
 module _ {s : Store} {u : View} {c : Commit} {versions views : List ℕ} {base : ℕ} {values : List ℕ} {ranks n : ℕ}
@@ -72,35 +72,35 @@ module _ {s : Store} {u : View} {c : Commit} {versions views : List ℕ} {base :
 module _ {s : Store} {u : View} {c : Commit} {versions views : List ℕ} {base : ℕ} {values : List ℕ} {ranks n : ℕ}
     (g : Given s u c versions views base values ranks n) {k : ℕ} {left : Set} (h : Left ranks 0 n k left) where
   -- what the keys that are read add, up to the key of the turn
-  module _ (P : Key → ℕ → Type 0) (only : (q t : ℕ) → P q t → T (reads c q)) (found : Set) (p : IsSet found (UpTo P k)) where
-    pub reads-turn : 0 < left → {q : ℕ} → q ≡ lowest left / 2 → (m : Set) {next : Set} → next ≡ union found m → IsSet m (P q) → IsSet next (UpTo P (q + 1))
+  module _ (P : Key → ℕ → Type 0) (only : (q t : ℕ) → P q t → T (reads c q)) (found : Set) (p : IsSet found (From P k)) where
+    pub reads-turn : 0 < left → {q : ℕ} → q ≡ lowest left / 2 → (m : Set) {next : Set} → next ≡ union found m → IsSet m (P q) → IsSet next (From P (q + 1))
     reads-turn a {q} e m z x =
         let (b, _, _, none) = next-key h a e in
-        gather-more P q found m z (gather-skip P k q found b (λ j l o t y. unread g j (none j l o) (only j t y)) p) x
+        from-turn P found p b (λ j l o t y. unread g j (none j l o) (only j t y)) m x z
 
     pub reads-all : k ≤ n → left ≡ 0 → IsSet found (λ t. (q : Key) × P q t)
     reads-all l e =
         isSet-as found (λ t. (λ (q, _, x). (q, x), λ (q, x). (q, omega (arith, g .fits .read-keys q (only q t x), g .keys-are), x)))
-        (gather-skip P k n found l (λ j a b t y. unread g j (left-none h e j a b) (only j t y)) p)
+        (from-passed P found p l (λ j a b t y. unread g j (left-none h e j a b) (only j t y)))
 
-  pub all-sources : k ≤ n → left ≡ 0 → (found : Set) → IsSet found (UpTo (readAt s u c) k) → IsSet found (FromRead s u c)
+  pub all-sources : k ≤ n → left ≡ 0 → (found : Set) → IsSet found (From (readAt s u c) k) → IsSet found (FromRead s u c)
   all-sources l e found p = isSet-as found (λ t. (λ (q, (r, x)). (q, r, x), λ (q, r, x). (q, (r, x)))) (reads-all (readAt s u c) (λ q t x. x .0) found p l e)
 
-  pub all-later : k ≤ n → left ≡ 0 → (found : Set) → IsSet found (UpTo (laterAt s u c) k) → IsSet found (ToLater s u c)
+  pub all-later : k ≤ n → left ≡ 0 → (found : Set) → IsSet found (From (laterAt s u c) k) → IsSet found (ToLater s u c)
   all-later l e found p = isSet-as found (λ t. (λ (q, (r, x)). (q, r, x), λ (q, r, x). (q, (r, x)))) (reads-all (laterAt s u c) (λ q t x. x .0) found p l e)
 
 module _ {s : Store} {c : Commit} {keys : List ℕ} {values : List ℕ} {ranks n : ℕ} (g : Writing s c keys values ranks n) {k : ℕ} {left : Set} (h : Left ranks 1 n k left) (found : Set)
-    (p : IsSet found (UpTo (writtenAt s c) k)) where
-  none-written : (q : Key) → k ≤ q → ((j : ℕ) → k ≤ j → j < q → ¬ T (has ranks (2 * j + 1))) → IsSet found (UpTo (writtenAt s c) q)
-  none-written q l none = gather-skip (writtenAt s c) k q found l (λ j a b t y. none j a b (subst T (writes-rank (g .operations) j) (y .0))) p
+    (p : IsSet found (From (writtenAt s c) k)) where
+  unwritten : (j : ℕ) → ¬ T (has ranks (2 * j + 1)) → (t : ℕ) → ¬ writtenAt s c j t
+  unwritten j m t y = m (subst T (writes-rank (g .operations) j) (y .0))
 
-  pub writes-turn : 0 < left → {q : ℕ} → q ≡ lowest left / 2 → {next : Set} → next ≡ union found (getD keys (writersPlace q) 0) → IsSet next (UpTo (writtenAt s c) (q + 1))
+  pub writes-turn : 0 < left → {q : ℕ} → q ≡ lowest left / 2 → {next : Set} → next ≡ union found (getD keys (writersPlace q) 0) → IsSet next (From (writtenAt s c) (q + 1))
   writes-turn a {q} e z =
       let (b, l, t, none) = next-key h a e in
-      gather-more (writtenAt s c) q found _ z (none-written q b none)
-      (isSet-as _ (λ t′. (λ x. (subst T (sym (writes-rank (g .operations) q)) t, x), λ (_, x). x)) (g .in-keys .writers q (omega (arith, l, g .keys-are))))
+      from-turn (writtenAt s c) found p b (λ j a o. unwritten j (none j a o)) _
+      (isSet-as _ (λ t′. (λ x. (subst T (sym (writes-rank (g .operations) q)) t, x), λ (_, x). x)) (g .in-keys .writers q (omega (arith, l, g .keys-are)))) z
 
   pub all-earlier : k ≤ n → left ≡ 0 → IsSet found (FromWrite s c)
   all-earlier l e =
       isSet-as found (λ t. (λ (q, _, (r, x)). (q, r, x), λ (q, r, x). (q, omega (arith, g .fits .write-keys q r, g .keys-are), (r, x))))
-      (none-written n l (λ j a b. left-none h e j a b))
+      (from-passed (writtenAt s c) found p l (λ j a b. unwritten j (left-none h e j a b)))

@@ -53,6 +53,10 @@ module _ (A : ℕ → ℕ → Type 0) where
     pub from-passed : IsSet all (From A q)
     from-passed = isSet-as all (λ a. below-passed (λ j. A j a) l (λ j m o. none j m o a)) h
 
+  -- one number after the other
+  pub key-more : {k : ℕ} (all : Set) → IsSet all (From A k) → (row : Set) {after : Set} → IsSet row (A k) → after ≡ union all row → IsSet after (From A (k + 1))
+  key-more all h = from-turn all h (omega arith) (λ j l m a x. omega arith)
+
 -- ---- the rows of the keys that have an operation of one access, gathered
 
 abbrev pub RowWith : (ℕ → Set) → Set → ℕ → ℕ → ℕ → Type 0

@@ -14,7 +14,8 @@ use Rattle.sets.proofs.Laws.{has-none, has-lowest, single-has, single-only}
 use Rattle.sets.proofs.Algebra.{without-is, without-word}
 use Rattle.state.specs.Places.{headPlace, writersPlace}
 use Rattle.state.specs.Keeps.{IsSet}
-use Rattle.state.proofs.Sets.{isSet-none, isSet-union, isSet-insert}
+use Rattle.state.proofs.Sets.{isSet-none, isSet-insert}
+use Rattle.state.proofs.Below.{from-none, key-more}
 use Rattle.views.specs.Words.{writerIn}
 use Rattle.views.specs.Gained.{WriterAmong, GainedAt, Gains, LackingAt, LackingBelow}
 use Rattle.views.proofs.Tests.{has-as}
@@ -75,37 +76,17 @@ module _ (versions : List ℕ) (k among : ℕ) where
 
 -- ---- over the keys
 
--- the set of each key below k, and that of key k
-module _ (P : ℕ → ℕ → Type 0) where
-  pub keys-none : IsSet 0 (λ t. (l : ℕ) × (l < 0) × P l t)
-  keys-none = isSet-none (λ t (l, b, _). absurd (none l b))
-    where
-      none : (l : ℕ) → l < 0 → ⊥
-      none l b = omega arith
-
-  pub keys-more : (k a b : ℕ) {c : ℕ} → IsSet a (λ t. (l : ℕ) × (l < k) × P l t) → IsSet b (P k) → c ≡ union a b → IsSet c (λ t. (l : ℕ) × (l < k + 1) × P l t)
-  keys-more k a b {c} p q e t =
-      (λ x. out (isSet-union a b p q t .0 (has-as t e x)), λ (l, m, x). has-as t (sym e) (isSet-union a b p q t .1 (back l m x (ℕ-discrete l k))))
-    where
-      out : ((l : ℕ) × (l < k) × P l t) ⊎ P k t → (l : ℕ) × (l < k + 1) × P l t
-      out (inl (l, m, x)) = (l, omega arith, x)
-      out (inr x) = (k, omega arith, x)
-
-      back : (l : ℕ) → l < k + 1 → P l t → Dec (l ≡ k) → ((l : ℕ) × (l < k) × P l t) ⊎ P k t
-      back l m x (yes z) = inr (subst (λ (j : ℕ). P j t) z x)
-      back l m x (no z) = inl (l, omega arith, x)
-
 -- what each key gained
 module _ (versions fresh masks : List ℕ) (base : ℕ) where
   pub gains-none : (gain : List ℕ) → Gains versions fresh masks base 0 gain 0
-  gains-none gain = record { each = λ l b. absurd (omega arith); whole = keys-none (GainedAt versions fresh masks base) }
+  gains-none gain = record { each = λ l b. absurd (omega arith); whole = from-none (GainedAt versions fresh masks base) }
 
   pub gains-more : (k all w : ℕ) {m more : ℕ} {gain : List ℕ} → Gains versions fresh masks base k gain all → k < length gain
       → m ≡ without (getD fresh k 0) (getD masks (base + k) 0) → IsSet w (WriterAmong versions k m)
       → more ≡ union all w → Gains versions fresh masks base (k + 1) (set gain k w) more
   gains-more k all w {m} {more} {gain} g l q s e = record {
     each = λ i b. each i b (ℕ-discrete i k);
-    whole = keys-more (GainedAt versions fresh masks base) k all w (g .whole) p e;
+    whole = key-more (GainedAt versions fresh masks base) all (g .whole) w p e;
   }
     where
       p : IsSet w (GainedAt versions fresh masks base k)
@@ -118,7 +99,7 @@ module _ (versions fresh masks : List ℕ) (base : ℕ) where
 -- what each key lacks
 module _ (keys gain : List ℕ) where
   pub lacking-none : IsSet 0 (LackingBelow keys gain 0)
-  lacking-none = keys-none (LackingAt keys gain)
+  lacking-none = from-none (LackingAt keys gain)
 
   pub lacking-more : (k a b : ℕ) {c : ℕ} → IsSet a (LackingBelow keys gain k) → b ≡ without (getD keys (writersPlace k) 0) (getD gain k 0) → c ≡ union a b → IsSet c (LackingBelow keys gain (k + 1))
-  lacking-more k a b p q e = keys-more (LackingAt keys gain) k a b p (λ t. rw q (without-is (getD keys (writersPlace k) 0) (getD gain k 0) t)) e
+  lacking-more k a b p q e = key-more (LackingAt keys gain) a p b (λ t. rw q (without-is (getD keys (writersPlace k) 0) (getD gain k 0) t)) e

@@ -8,9 +8,9 @@ use Rattle.store.specs.Store.{Store, Commit}
 use Rattle.state.specs.Keeps.{IsSet}
 use Rattle.state.specs.Accesses.{Left}
 use Rattle.state.proofs.Accesses.{left-rest, turn-below}
+use Rattle.state.proofs.Below.{From, from-none}
 use Rattle.operations.specs.Given.{Writing}
 use Rattle.operations.specs.PerKey.{writtenAt}
-use Rattle.operations.proofs.Gather.{UpTo, gather-none}
 use Rattle.operations.proofs.PerKey.{writes-turn, all-earlier}
 use Rattle.operations.proofs.earlier.Statement.{statement}
 use Rattle.operations.proofs.earlier.Tie as tie
@@ -18,7 +18,7 @@ use Rattle.operations.proofs.earlier.Tie as tie
 abbrev Inv-loop : tie.InvT-loop
 Inv-loop keys ranks n found₀ left₀ found left =
     (k : ℕ) × (k ≤ n) × Left ranks 1 n k left
-    × ((s : Store) (c : Commit) (values : List ℕ) → Writing s c keys values ranks n → IsSet found (UpTo (writtenAt s c) k))
+    × ((s : Store) (c : Commit) (values : List ℕ) → Writing s c keys values ranks n → IsSet found (From (writtenAt s c) k))
 
 abbrev μ-loop : tie.MeasureT-loop
 μ-loop keys ranks n found₀ left₀ found left = left
@@ -27,7 +27,7 @@ keys-with-requires : tie.Need-keys-with-requires Inv-loop μ-loop
 keys-with-requires c κs = search needs
 
 loop-holds : tie.Need-loop-holds Inv-loop μ-loop
-loop-holds c = (0, omega arith, c .keys-with .ensures, λ s d values g. gather-none (writtenAt s d))
+loop-holds c = (0, omega arith, c .keys-with .ensures, λ s d values g. from-none (writtenAt s d))
 
 lowest-requires : tie.Need-lowest-requires Inv-loop μ-loop
 lowest-requires c κs = search needs

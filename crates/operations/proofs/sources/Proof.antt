@@ -9,9 +9,9 @@ use Rattle.growth.proofs.Ordered.{Ordered}
 use Rattle.state.specs.Keeps.{IsSet, KeepsKeys}
 use Rattle.state.specs.Accesses.{Left}
 use Rattle.state.proofs.Accesses.{next-key, left-rest, turn-below}
+use Rattle.state.proofs.Below.{From, from-none}
 use Rattle.operations.specs.Given.{Given}
 use Rattle.operations.specs.PerKey.{readAt, laterAt}
-use Rattle.operations.proofs.Gather.{UpTo, gather-none}
 use Rattle.operations.proofs.PerKey.{source-read, later-read, reads-turn, all-sources, all-later}
 use Rattle.operations.proofs.sources.Statement.{statement}
 use Rattle.operations.proofs.sources.Tie as tie
@@ -20,7 +20,7 @@ abbrev Inv-loop : tie.InvT-loop
 Inv-loop versions keys views base ranks n from₀ over₀ left₀ from over left =
     (k : ℕ) × (k ≤ n) × Left ranks 0 n k left
     × ((s : Store) (u : View) (c : Commit) (values : List ℕ) → Given s u c versions views base values ranks n → KeepsKeys s keys → Ordered s
-        → IsSet from (UpTo (readAt s u c) k) × IsSet over (UpTo (laterAt s u c) k))
+        → IsSet from (From (readAt s u c) k) × IsSet over (From (laterAt s u c) k))
 
 abbrev μ-loop : tie.MeasureT-loop
 μ-loop versions keys views base ranks n from₀ over₀ left₀ from over left = left
@@ -29,7 +29,7 @@ keys-with-requires : tie.Need-keys-with-requires Inv-loop μ-loop
 keys-with-requires c κs = search needs
 
 loop-holds : tie.Need-loop-holds Inv-loop μ-loop
-loop-holds c = (0, omega arith, c .keys-with .ensures, λ s u d values g kept o. (gather-none (readAt s u d), gather-none (laterAt s u d)))
+loop-holds c = (0, omega arith, c .keys-with .ensures, λ s u d values g kept o. (from-none (readAt s u d), from-none (laterAt s u d)))
 
 lowest-requires : tie.Need-lowest-requires Inv-loop μ-loop
 lowest-requires c κs = search needs

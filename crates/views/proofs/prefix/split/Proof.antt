@@ -1,14 +1,14 @@
 -- `views::prefix::split` meets its contract. The sets so far are those of the keys passed. Assumes nothing.
 use borrow.Author.Needs.{needs}
-use Prim.Native.Nat.{ℕ, _-_, _≤_, _<_}
+use Prim.Native.Nat.{ℕ, _-_, _≤_}
 use mathlib.Core.Path.{_≡_}
 use mathlib.Core.List.{List}
 use native.Mathlib.Omega.{arith}
 use Rattle.store.specs.Store.{View, Store}
 use Rattle.state.specs.Keeps.{IsSet}
+use Rattle.state.proofs.Below.{From, from-none, key-more}
 use Rattle.views.specs.Viewed.{NewMasks}
 use Rattle.views.specs.Prefix.{Prefixes}
-use Rattle.views.proofs.Gathered.{keys-none, keys-more}
 use Rattle.views.proofs.Downward.{HeldAt, LackedAt, later-is, held-is, held-all, lacked-all}
 use Rattle.views.proofs.prefix.split.Statement.{statement}
 use Rattle.views.proofs.prefix.split.Tie as tie
@@ -17,14 +17,14 @@ abbrev Inv-loop : tie.InvT-loop
 Inv-loop versions keys fresh n held₀ lacking₀ k₀ held lacking k =
     (k ≤ n)
     × ((s : Store) (old u : View) (masks : List ℕ) (base seen : ℕ) (m : NewMasks s old u n versions keys masks base seen fresh) → Prefixes fresh n
-        → IsSet held (λ t. (l : ℕ) × (l < k) × HeldAt s old u n versions keys masks base seen fresh m l t)
-            × IsSet lacking (λ t. (l : ℕ) × (l < k) × LackedAt s old u n versions keys masks base seen fresh m l t))
+        → IsSet held (From (HeldAt s old u n versions keys masks base seen fresh m) k)
+            × IsSet lacking (From (LackedAt s old u n versions keys masks base seen fresh m) k))
 
 abbrev μ-loop : tie.MeasureT-loop
 μ-loop versions keys fresh n held₀ lacking₀ k₀ held lacking k = n - k
 
 loop-holds : tie.Need-loop-holds Inv-loop μ-loop
-loop-holds c = (omega arith, λ s old u masks base seen m p. (keys-none (HeldAt s old u _ _ _ masks base seen _ m), keys-none (LackedAt s old u _ _ _ masks base seen _ m)))
+loop-holds c = (omega arith, λ s old u masks base seen m p. (from-none (HeldAt s old u _ _ _ masks base seen _ m), from-none (LackedAt s old u _ _ _ masks base seen _ m)))
 
 mul-writer-of : tie.Need-mul-writer-of Inv-loop μ-loop
 mul-writer-of c = search needs
@@ -90,8 +90,8 @@ loop-again c = (
           let x = c .before .before .before .before .before .before .before .before .before .before .before .loop .inv .1 s old u masks base seen m p in
           let l = later-is s old u _ _ _ masks base seen _ m p _ (omega arith) (c .before .before .before .before .before .before .before .before .newest .ensures .0) (c .before .before .before .before .before .before .writer-of .ensures .0) (c .before .before .before .before .below .ensures) (c .before .before .before .without .ensures) in
           let h = held-is s old u _ _ _ masks base seen _ m p _ (omega arith) (c .before .before .before .before .before .before .before .before .newest .ensures .0) (c .before .before .before .before .before .before .writer-of .ensures .0) (c .before .before .before .before .below .ensures) (c .before .before .before .without .ensures) (c .before .before .without2 .ensures) in (
-            keys-more (HeldAt s old u _ _ _ masks base seen _ m) _ _ _ (x .0) h (c .before .union .ensures),
-            keys-more (LackedAt s old u _ _ _ masks base seen _ m) _ _ _ (x .1) l (c .union2 .ensures),
+            key-more (HeldAt s old u _ _ _ masks base seen _ m) _ (x .0) _ h (c .before .union .ensures),
+            key-more (LackedAt s old u _ _ _ masks base seen _ m) _ (x .1) _ l (c .union2 .ensures),
           ),
     )
 
