@@ -1,11 +1,11 @@
 // "A record is either read whole or the file is refused there" (01, The trace file). Within a record the checks come in the order
 // of "Bench codes": "4 bytes left, kind 4, rest of 3, then 6, 7".
 ghost use mathlib.Core.Path.{_≡_};
-ghost use Prim.Native.Nat.{_+_, _*_, _≤_, _<_};
+ghost use Prim.Native.Nat.{ℕ, _+_, _*_, _≤_, _<_};
 ghost use lib.ListN.{length};
 ghost use Rattle.store.specs.Limits.{maxKeys};
 ghost use Rattle.trace.specs.Format.{operationFits, operationsFit, shiftAt, commitOf, commitAt};
-ghost use Rattle.trace.specs.Meaning.{whyNumber, Answers, RecordSays};
+ghost use Rattle.trace.specs.Meaning.{whyNumber, Answers, RecordSays, InFormAt};
 
 // Why a record is refused; whyNumber gives the code.
 pub enum Why {
@@ -168,4 +168,29 @@ pub fn record_at(s: &[u8], at: usize, keys: usize, clients: usize) -> Record
         return commit_at(s, at, keys, clients);
     }
     Record::Refused(Why::Kind)
+}
+
+// A record that is known to be in form, read again without a test.
+pub fn known_at(s: &[u8], at: usize, keys: usize) -> Record
+    requires { ⌜ ((clients : ℕ) × InFormAt (now s) at keys clients) ⌝ }
+    ensures { λ r. ⌜ ((clients : ℕ) → InFormAt (now (s .entry)) at keys clients → RecordSays (now (s .entry)) at keys clients r) ⌝ }
+{
+    let client = endian::byte_at(s, at + 4);
+    if endian::u16_at(s, at + 2) == 2 {
+        return Record::Shift {
+            client,
+            masks: at + 6,
+            next: at + (6 + 8 * keys),
+        };
+    }
+    let m = endian::byte_at(s, at + 5);
+    let masks = at + (10 + 8 * m);
+    Record::Commit {
+        client,
+        count: m,
+        session: endian::u32_at(s, at + 6),
+        operations: at + 10,
+        masks,
+        next: masks + 8 * keys,
+    }
 }
