@@ -1,5 +1,5 @@
 -- `trace::records::known_at` meets its contract: a record in form goes as far as is read of it, by its kind. Assumes nothing.
-use Prim.Native.Nat.{_+_, _*_, _≤_}
+use Prim.Native.Nat.{_+_, _≤_}
 use native.Mathlib.Omega.{arith}
 use lib.ListN.{length}
 use denote.Ref.{now}
@@ -22,7 +22,7 @@ u16-at-requires : tie.Need-u16-at-requires
 u16-at-requires c κs = omega (arith, six-bytes (c .before .before .pre .1))
 
 -- a shift ends within the file
-to-shift-end : (c : tie.Then1) → c .before .before .before .before .args .at + shiftLength (c .before .before .before .before .args .keys) ≤ length (now (c .before .before .before .before .args .s))
+to-shift-end : (c : tie.Then1) → let a = c .before .before .before .before .args in a .at + shiftLength (a .keys) ≤ length (now (a .s))
 to-shift-end c = shift-within (c .before .before .before .before .pre .1) (omega arith)
 
 add-t10 : tie.Need-add-t10
@@ -47,7 +47,7 @@ byte-at-requires-2 : tie.Need-byte-at-requires-2
 byte-at-requires-2 c κs = omega (arith, six-bytes (c .before .before .before .before .pre .1))
 
 -- and so does a commit
-to-commit-end : (c : tie.After-byte-at2) → c .before .before .before .before .before .args .at + commitLength (c .before .before .before .before .before .args .keys) (c .byte-at2 .result) ≤ length (now (c .before .before .before .before .before .args .s))
+to-commit-end : (c : tie.After-byte-at2) → let a = c .before .before .before .before .before .args in a .at + commitLength (a .keys) (c .byte-at2 .result) ≤ length (now (a .s))
 to-commit-end c = omega (arith, commit-within (c .before .before .before .before .before .pre .1) (λ e. omega arith))
 
 mul-masks : tie.Need-mul-masks
