@@ -1,6 +1,6 @@
 -- A record that is known to be in form: by its kind, how far it goes and what is read of it. Assumes nothing.
 use Prim.Native.Nat.{ℕ, _+_, _*_, _≤_}
-use mathlib.Core.Path.{_≡_, sym, ap, _∙_}
+use mathlib.Core.Path.{_≡_, sym, _∙_}
 use mathlib.Core.Logic.{_≢_}
 use mathlib.Core.Bool.{Bool, true, false}
 use mathlib.Core.List.{List}
@@ -14,13 +14,12 @@ use Rattle.search.proofs.Choose.{choose-yes, choose-no, need-taken}
 use Rattle.search.proofs.Tests.{T-true}
 use Rattle.endian.specs.Endian.{leAt}
 use Rattle.store.specs.Store.{Event, shift, commit}
-use Rattle.trace.specs.Format as Format
 use Rattle.trace.specs.Format.{viewAt, operationsFit, misshapen, whole, shiftLength, shiftAt, commitLength, commitRead, commitOf, commitAt, recordAt}
 use Rattle.trace.specs.Meaning.{meaning, PlacesFit, RecordSays, InFormAt}
-use Rattle.trace.specs.declared.records.Record.{Record}
 use Rattle.trace.specs.declared.records.Record.the-variants.{Shift, Commit}
 
-not-whole : {code next : ℕ} {e : Event} → misshapen code ≢ whole e next
+-- a record that is refused is not whole
+pub not-whole : {code next : ℕ} {e : Event} → misshapen code ≢ whole e next
 not-whole q = let z : _≡_ {A = ℕ} 0 1 = cc in absurd (omega arith)
 
 -- a choice that is not its second value
@@ -36,11 +35,11 @@ module _ {s : List ℕ} {at keys clients : ℕ} (f : InFormAt s at keys clients)
   unfolding recordAt shiftAt
   shift-there kind =
       let (long, by-kind) = need-taken _ _ _ not-whole (f .read) in
-      let (size, r1) = need-taken _ _ _ not-whole (sym (choose-yes _ _ _ (yes-eqb kind)) ∙ by-kind) in
-      let (within, r2) = need-taken _ _ _ not-whole r1 in
-      let (client, r3) = need-taken _ _ _ not-whole r2 in
-      let (spare, r4) = need-taken _ _ _ not-whole r3 in
-      (leb→le _ _ within, r4)
+      let (size, from-within) = need-taken _ _ _ not-whole (sym (choose-yes _ _ _ (yes-eqb kind)) ∙ by-kind) in
+      let (within, from-client) = need-taken _ _ _ not-whole from-within in
+      let (client, from-spare) = need-taken _ _ _ not-whole from-client in
+      let (spare, is) = need-taken _ _ _ not-whole from-spare in
+      (leb→le _ _ within, is)
 
   -- and those of a commit, whose kind is the only other
   commit-there : leAt s (at + 2) 2 ≢ 2
@@ -49,13 +48,13 @@ module _ {s : List ℕ} {at keys clients : ℕ} (f : InFormAt s at keys clients)
   unfolding recordAt commitAt commitOf
   commit-there kind =
       let (long, by-kind) = need-taken _ _ _ not-whole (f .read) in
-      let (third, r1) = choose-taken _ _ _ not-whole (sym (choose-no _ _ _ (no-eqb kind)) ∙ by-kind) in
-      let (room, r2) = need-taken _ _ _ not-whole r1 in
-      let (size, r3) = need-taken _ _ _ not-whole r2 in
-      let (within, r4) = need-taken _ _ _ not-whole r3 in
-      let (client, r5) = need-taken _ _ _ not-whole r4 in
-      let (fit, r6) = need-taken _ _ _ not-whole r5 in
-      (leb→le _ _ within, T-true _ fit, r6)
+      let (three, from-count) = choose-taken _ _ _ not-whole (sym (choose-no _ _ _ (no-eqb kind)) ∙ by-kind) in
+      let (count, from-size) = need-taken _ _ _ not-whole from-count in
+      let (size, from-within) = need-taken _ _ _ not-whole from-size in
+      let (within, from-client) = need-taken _ _ _ not-whole from-within in
+      let (client, from-fit) = need-taken _ _ _ not-whole from-client in
+      let (fit, is) = need-taken _ _ _ not-whole from-fit in
+      (leb→le _ _ within, T-true _ fit, is)
 
   -- a shift and a commit end within the file
   pub shift-within : leAt s (at + 2) 2 ≡ 2 → at + shiftLength keys ≤ length s
@@ -75,13 +74,13 @@ module _ {s : List ℕ} {at keys clients : ℕ} (f : InFormAt s at keys clients)
   -- the record by its parts
   pub shift-known : leAt s (at + 2) 2 ≡ 2 → {client : ℕ} → client ≡ leAt s (at + 4) 1 → RecordSays s at keys clients (Shift client (at + 6) (at + shiftLength keys))
   unfolding recordAt shiftAt commitAt commitOf meaning PlacesFit
-  shift-known kind e =
+  shift-known kind client-is =
       let (within, is) = shift-there kind in
-      rw e (λ n. is ∙ sym (f .read), (omega arith, within))
+      rw client-is (λ n. is ∙ sym (f .read), (omega arith, within))
 
   pub commit-known : leAt s (at + 2) 2 ≢ 2 → {client m session next : ℕ} → client ≡ leAt s (at + 4) 1 → m ≡ leAt s (at + 5) 1 → session ≡ leAt s (at + 6) 4
       → next ≡ at + commitLength keys m → RecordSays s at keys clients (Commit client m session (at + 10) (at + (10 + 8 * m)) next)
   unfolding recordAt shiftAt commitAt commitOf meaning PlacesFit
-  commit-known kind c e n p =
+  commit-known kind client-is count-is session-is next-is =
       let (within, fit, is) = commit-there kind in
-      rw (p, c, e, n) (λ n. is ∙ sym (f .read), (omega arith, omega arith, within, fit))
+      rw (next-is, client-is, count-is, session-is) (λ n. is ∙ sym (f .read), (omega arith, omega arith, within, fit))

@@ -52,7 +52,7 @@ Answers s keys clients f r = ((n : ℕ) → meaning s keys r ≡ f (record { key
 abbrev pub RecordSays : List ℕ → ℕ → ℕ → ℕ → Record → Type 0
 RecordSays s at keys clients r = Answers s keys clients (λ h. recordAt s h at) r
 
--- the record at a place is read whole, with the header's number of records, which no record depends on
+-- the record at a place is read whole, whatever number of records the header of the file has
 pub record InFormAt (s : List ℕ) (at keys clients : ℕ) : Type 0 where
   pub records : ℕ
   pub event : Event
