@@ -11,10 +11,11 @@ use Rattle.store.specs.Store.{Configuration, nextNumber, Commit, Event, shift, 
 use Rattle.store.specs.Update.{update, step}
 use Rattle.store.specs.Refusal.{refusesEvent}
 use Rattle.trace.specs.Format as Format
-use Rattle.trace.specs.Format.{viewAt, misshapen, whole, commitsWith}
+use Rattle.trace.specs.Format.{viewAt, whole, commitsWith}
 use Rattle.trace.specs.Meaning.{meaning, PlacesFit, RecordSays}
 use Rattle.trace.proofs.Decoded.{ReadAt, record-read}
 use Rattle.trace.proofs.WellFormed.{FitsEvent}
+use Rattle.trace.proofs.Known.{not-whole}
 use Rattle.trace.specs.declared.records.Why.{Why}
 use Rattle.trace.specs.declared.records.Record.{Record}
 use Rattle.trace.specs.declared.records.Record.the-variants as Records
@@ -58,13 +59,10 @@ goes-within {size = size} made o e l = subst (NextWithin size) (sym e) (within-o
 whole-same : {d e : Event} {m n : ℕ} → whole d m ≡ whole e n → (d ≡ e) × (m ≡ n)
 whole-same q = (cc, cc)
 
-misshapen-whole : {X : Type 0} {code : ℕ} {e : Event} {n : ℕ} → misshapen code ≡ whole e n → X
-misshapen-whole q = let z : _≡_ {A = ℕ} 0 1 = cc in absurd (omega arith)
-
 -- a record that was not read is none that fits
 pub not-read : {X : Type 0} {file : List ℕ} {n clients made next : ℕ} {r : Record} {e : Event} (w : Why) → r ≡ Records.Refused w → Fitting file n clients made r e next → X
 unfolding meaning
-not-read {file = file} {n = n} w q f = misshapen-whole (sym (ap (meaning file n) q) ∙ f .means)
+not-read {file = file} {n = n} w q f = absurd (not-whole (sym (ap (meaning file n) q) ∙ f .means))
 
 -- ---- a shift
 

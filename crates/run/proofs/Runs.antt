@@ -14,12 +14,12 @@ use Rattle.store.specs.Refusal.{refusesEvent}
 use Rattle.store.proofs.Sound.{Sound, FitsView, FitsCommit}
 use Rattle.trace.specs.Result.{taken}
 use Rattle.trace.specs.Format.{Header, commitsWith, eventsFrom}
-use Rattle.trace.specs.Meaning.{RecordSays}
+use Rattle.trace.specs.Meaning.{RecordSays, InFormAt}
 use Rattle.trace.specs.declared.records.Record.{Record}
 use Rattle.trace.proofs.Decoded.{ReadAt, record-read}
 use Rattle.trace.proofs.WellFormed.{FitsEvent}
 use Rattle.trace.proofs.Fits.{commit-fits}
-use Rattle.trace.proofs.InForm.{First, events-first}
+use Rattle.trace.proofs.InForm.{First, first-in-form, events-first}
 use Rattle.levels.specs.Level.{Level, Failure, failsEvent}
 use Rattle.state.specs.declared.Key.{Key}
 use Rattle.state.specs.declared.VersionNumber.{VersionNumber}
@@ -96,6 +96,9 @@ module _ {file : List ℕ} {n clients records : ℕ} {es : List Event} where
     }
 
     -- the record at hand
+    pub in-form : 0 < left → InFormAt file at n clients
+    in-form some-left = first-in-form file (header n clients records) at number (s .g .store .commits) left some-left (s .along .read)
+
     module _ (bytes : Bytes file) (few-clients : clients ≤ maxClients) (some-left : 0 < left) (r : Record) (says : RecordSays file at n clients r) where
       first : First file (header n clients records) number (s .g .store .commits) left r (s .rest)
       first = events-first file (header n clients records) at number (s .g .store .commits) left r (says .0 records) some-left (s .along .read)

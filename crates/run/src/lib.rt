@@ -22,11 +22,12 @@ pub enum Ran {
     },
 }
 
-// The run of the records of a file, from the opening arrays on, up to the end or to the first record that is refused.
+// The run of the records of a file in form, from the opening arrays on, up to the end or to the first record that is refused.
 pub fn run_all(file: &[u8], n: usize, clients: usize, records: usize, versions: &mut [u64], keys: &mut [u64], views: &mut [u64], seen: &mut [u64], sessions: &mut [u64], commits: &mut [u64], links: &mut [u64], verdicts: &mut [u64], values: &mut [u64], fresh: &mut [u64]) -> Ran
     requires { ⌜ (1 ≤ n) × (n ≤ 16) × (clients ≤ 16) × (12 ≤ length (now file)) × (length (now file) ≤ 65536) × (records < 65536) ⌝ }
     requires { ⌜ (length (now verdicts) ≡ 40) × (length (now values) ≡ 32) × (length (now fresh) ≡ 16) ⌝ }
     requires { ⌜ (length (now versions) ≡ 2048) × (length (now keys) ≡ 32) × (length (now views) ≡ 256) × (length (now seen) ≡ 16) × (length (now sessions) ≡ 48) × (length (now commits) ≡ 192) × (length (now links) ≡ 160) ⌝ }
+    requires { ⌜ ((es : List Event) × Starts (now file) n clients records es (now versions) (now keys) (now views) (now seen) (now sessions) (now commits) (now links) (now verdicts) (now values)) ⌝ }
     ensures {
         λ r. ⌜
             ((es : List Event)
@@ -40,7 +41,7 @@ pub fn run_all(file: &[u8], n: usize, clients: usize, records: usize, versions: 
     let mut made: usize = 0;
     let mut left = records;
     while 0 < left {
-        let r = trace::reader::record_from(file, at, n, clients);
+        let r = trace::records::known_at(file, at, n);
         let next = one_record(file, r, number, made, versions, keys, views, seen, sessions, commits, links, verdicts, values, fresh, n);
         match next {
             Next::Goes { at: place, made: count } => {

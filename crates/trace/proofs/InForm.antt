@@ -20,7 +20,7 @@ use Rattle.store.specs.Refusal.{Refusal, refuse}
 use Rattle.trace.specs.Result.{Result, refused, taken, onTaken}
 use Rattle.trace.specs.Format as Format
 use Rattle.trace.specs.Format.{misshapen, whole, recordAt, commitsWith, onRecord, eventsFrom, headerAt, withinLimits, decode}
-use Rattle.trace.specs.Meaning.{meaning, stepOf, headerOf, AllRecordsSay, FormSays}
+use Rattle.trace.specs.Meaning.{meaning, InFormAt, stepOf, headerOf, AllRecordsSay, FormSays}
 use Rattle.trace.specs.declared.records.Record.{Record}
 use Rattle.trace.specs.declared.records.Record.the-variants.{Shift, Commit, Refused}
 use Rattle.trace.specs.declared.form.Header.{Header}
@@ -144,6 +144,18 @@ pub record First (s : List ℕ) (h : Format.Header) (index commits left : ℕ) (
   pub few-commits : commitsWith event commits ≤ maxCommits
   pub others-read : eventsFrom s h (left - 1) next (index + 1) (commitsWith event commits) ≡ taken others
 
+module _ (s : List ℕ) (h : Format.Header) (at index commits left : ℕ) {es : List Event} (some : 0 < left) (read : eventsFrom s h left at index commits ≡ taken es) where
+  first-whole : (e : Event) × (next : ℕ) × (recordAt s h at ≡ whole e next) × (commitsWith e commits ≤ maxCommits)
+      × (onTaken (eventsFrom s h (left - 1) next (suc index) (commitsWith e commits)) (λ others. taken (e ∷ others)) ≡ taken es)
+  unfolding eventsFrom
+  first-whole =
+      let more : left ≡ suc (left - 1) = omega arith in
+      onRecord-taken (recordAt s h at) index commits _ (ap (λ n. eventsFrom s h n at index commits) (sym more) ∙ read)
+
+  -- the first of the records is in form
+  pub first-in-form : InFormAt s at (h .keys) (h .clients)
+  first-in-form = let (event, next, is, few, rest) = first-whole in record { records = h .records; event = event; next = next; read = is }
+
 module _ (s : List ℕ) (h : Format.Header) (at index commits left : ℕ) (r : Record) (means : meaning s (h .keys) r ≡ recordAt s h at) where
   first-of : {es : List Event} (event : Event) (next : ℕ) (others : List Event) → recordAt s h at ≡ whole event next → commitsWith event commits ≤ maxCommits
       → eventsFrom s h (left - 1) next (suc index) (commitsWith event commits) ≡ taken others → taken (event ∷ others) ≡ taken es
@@ -159,10 +171,8 @@ module _ (s : List ℕ) (h : Format.Header) (at index commits left : ℕ) (r : R
   }
 
   pub events-first : {es : List Event} → 0 < left → eventsFrom s h left at index commits ≡ taken es → First s h index commits left r es
-  unfolding eventsFrom
   events-first some read =
-      let more : left ≡ suc (left - 1) = omega arith in
-      let (event, next, is, few, rest) = onRecord-taken (recordAt s h at) index commits _ (ap (λ n. eventsFrom s h n at index commits) (sym more) ∙ read) in
+      let (event, next, is, few, rest) = first-whole s h at index commits left some read in
       let (others, others-read, all) = onTaken-taken (eventsFrom s h (left - 1) next (suc index) (commitsWith event commits)) _ rest in
       first-of event next others is few others-read all
 

@@ -6,5 +6,6 @@ pub mod EncodeBytes
 pub mod RoundTrip
 pub mod Fits
 pub mod InForm
+pub mod Known
 pub mod Filled
 pub mod Ranks

@@ -1,15 +1,17 @@
 -- What the tests of the format that are made of several tests say of the numbers. Assumes nothing.
-use Prim.Native.Nat.{ℕ, zero, suc, _+_, _-_, _≤_, _<_}
-use mathlib.Core.Path.{_≡_}
-use mathlib.Core.Logic.{_↔_}
+use Prim.Native.Nat.{ℕ, zero, suc, _+_, _-_, _/_, _%_, _≤_, _<_}
+use mathlib.Core.Path.{_≡_, refl}
+use mathlib.Core.Logic.{_≢_, _↔_}
 use mathlib.Core.Bool.{Bool, true, false, _&&_}
 use mathlib.Core.List.{List}
 use native.Mathlib.Omega.{arith}
 use native.Mathlib.Numerals.{add-one}
 use lib.Dec.{T, eqb, ltb, leb, eqb→eq, ltb→lt, leb→le, lt→ltb, le→leb}
 use mir.Facts.{yes-eqb}
-use borrow.Author.Tests.{le-leb, lt-ltb, eq-eqb}
-use Rattle.endian.specs.Endian.{leAt}
+use borrow.Author.Tests.{le-leb, lt-ltb}
+use Rattle.search.specs.Choose.{choose}
+use Rattle.endian.specs.Endian.{Bytes, leAt}
+use Rattle.endian.proofs.Laws.{leAt-add, leAt-lt}
 use Rattle.store.specs.Limits.{maxKeys, maxClients}
 use Rattle.trace.specs.Format.{Header, rankAt, operationFits, operationsFit, withinLimits}
 
@@ -29,11 +31,26 @@ operationFits-is s at keys low =
       λ h. tests .1 (le→leb _ _ (h .0), lt→ltb _ _ (h .1), yes-eqb (h .2), le→leb _ _ (h .3)),
     )
 
--- once the other three hold, it is the test of the order
-pub operationFits-order : (s : List ℕ) (at keys low : ℕ) → leAt s at 1 ≤ 1 → leAt s (at + 1) 1 < keys → leAt s (at + 2) 2 ≡ 0
-    → leb low (rankAt s at) ≡ operationFits s at keys low
-unfolding operationFits
-operationFits-order s at keys low access key zeros = rw (le-leb _ _ access, lt-ltb _ _ key, eq-eqb _ _ zeros)
+-- the four bytes before the value, read as one number
+pub operation-parts : (s : List ℕ) → Bytes s → (at : ℕ) {w : ℕ} → w ≡ leAt s at 4
+    → (w % 256 ≡ leAt s at 1) × (w / 256 % 256 ≡ leAt s (at + 1) 1) × (w / 65536 ≡ leAt s (at + 2) 2)
+operation-parts s bytes at e =
+    let halves = leAt-add s 2 2 at in
+    let low-half = leAt-add s 1 1 at in
+    let access = leAt-lt s bytes 1 at in
+    let key = leAt-lt s bytes 1 (at + 1) in
+    (omega arith, omega arith, omega arith)
+
+-- the least rank that is left after an operation, or 0 where it does not fit
+pub low-rises : (fits : Bool) (rank : ℕ) {low : ℕ} → low ≡ choose fits (rank + 1) 0 → low ≢ 0 → (fits ≡ true) × (low ≡ rank + 1)
+unfolding choose
+low-rises true rank e some = (refl, e)
+low-rises false rank e some = absurd (some e)
+
+pub low-stops : (fits : Bool) (rank : ℕ) {low : ℕ} → low ≡ choose fits (rank + 1) 0 → low ≡ 0 → fits ≡ false
+unfolding choose
+low-stops true rank e none = absurd (omega arith)
+low-stops false rank e none = refl
 
 -- operations in turn: the first fits, and the others are tested from above its rank
 pub operationsFit-next : (s : List ℕ) (at keys low left : ℕ) {above : ℕ} → 0 < left → operationFits s at keys low ≡ true → above ≡ rankAt s at + 1

@@ -52,6 +52,13 @@ Answers s keys clients f r = ((n : ℕ) → meaning s keys r ≡ f (record { key
 abbrev pub RecordSays : List ℕ → ℕ → ℕ → ℕ → Record → Type 0
 RecordSays s at keys clients r = Answers s keys clients (λ h. recordAt s h at) r
 
+-- the record at a place is read whole, whatever number of records the header of the file has
+pub record InFormAt (s : List ℕ) (at keys clients : ℕ) : Type 0 where
+  pub records : ℕ
+  pub event : Event
+  pub next : ℕ
+  pub read : recordAt s (record { keys = keys; clients = clients; records = records }) at ≡ whole event next
+
 -- ---- all records
 
 -- what a record leads to where there were so many commits before it; code 8: "a 64th commit"

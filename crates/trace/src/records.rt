@@ -1,11 +1,12 @@
 // "A record is either read whole or the file is refused there" (01, The trace file). Within a record the checks come in the order
 // of "Bench codes": "4 bytes left, kind 4, rest of 3, then 6, 7".
 ghost use mathlib.Core.Path.{_≡_};
-ghost use Prim.Native.Nat.{_+_, _*_, _≤_, _<_};
+ghost use Prim.Native.Nat.{ℕ, _+_, _*_, _≤_, _<_};
 ghost use lib.ListN.{length};
+ghost use Rattle.search.specs.Choose.{choose};
 ghost use Rattle.store.specs.Limits.{maxKeys};
-ghost use Rattle.trace.specs.Format.{operationFits, operationsFit, shiftAt, commitOf, commitAt};
-ghost use Rattle.trace.specs.Meaning.{whyNumber, Answers, RecordSays};
+ghost use Rattle.trace.specs.Format.{rankAt, operationFits, operationsFit, shiftAt, commitOf, commitAt};
+ghost use Rattle.trace.specs.Meaning.{whyNumber, Answers, RecordSays, InFormAt};
 
 // Why a record is refused; whyNumber gives the code.
 pub enum Why {
@@ -45,24 +46,30 @@ pub fn number(w: Why) -> usize
     }
 }
 
-// "0 read or 1 write, key u8, zero u16, value u32": the operation at a place fits, and its rank is `low` or more.
-fn operation_fits(s: &[u8], at: usize, keys: usize, low: usize) -> bool
+// "0 read or 1 write, key u8, zero u16, value u32": where the operation at a place fits and its rank is `low` or more, the least rank
+// that the next one may have; 0 where not. The four bytes before the value are read as one number.
+fn low_after(s: &[u8], at: usize, keys: usize, low: usize) -> usize
     requires { ⌜ at + 8 ≤ length (now s) ⌝ }
-    ensures { λ r. ⌜ r ≡ operationFits (now (s .entry)) at keys low ⌝ }
+    ensures { λ r. ⌜ r ≡ choose (operationFits (now (s .entry)) at keys low) (rankAt (now (s .entry)) at + 1) 0 ⌝ }
 {
-    let access = endian::byte_at(s, at);
-    let key = endian::byte_at(s, at + 1);
-    let spare = endian::u16_at(s, at + 2);
+    let w = endian::u32_at(s, at) as usize;
+    let access = w % 256;
+    let key = w / 256 % 256;
+    let spare = w / 65536;
     if 1 < access {
-        return false;
+        return 0;
     }
     if keys <= key {
-        return false;
+        return 0;
     }
     if spare != 0 {
-        return false;
+        return 0;
     }
-    low <= 2 * key + access
+    let rank = 2 * key + access;
+    if rank < low {
+        return 0;
+    }
+    rank + 1
 }
 
 // "Operations rise strictly by key and then kind": the m operations from a place on fit, each of a higher rank than the one before.
@@ -74,13 +81,12 @@ fn operations_fit(s: &[u8], start: usize, keys: usize, m: usize) -> bool
     let mut at = start;
     let mut left = m;
     while 0 < left {
-        if operation_fits(s, at, keys, low) {
-            low = 2 * endian::byte_at(s, at + 1) + endian::byte_at(s, at) + 1;
-            at = at + 8;
-            left = left - 1;
-        } else {
+        low = low_after(s, at, keys, low);
+        if low == 0 {
             return false;
         }
+        at = at + 8;
+        left = left - 1;
     }
     true
 }
@@ -168,4 +174,29 @@ pub fn record_at(s: &[u8], at: usize, keys: usize, clients: usize) -> Record
         return commit_at(s, at, keys, clients);
     }
     Record::Refused(Why::Kind)
+}
+
+// A record that is known to be in form, read again without a test.
+pub fn known_at(s: &[u8], at: usize, keys: usize) -> Record
+    requires { ⌜ ((clients : ℕ) × InFormAt (now s) at keys clients) ⌝ }
+    ensures { λ r. ⌜ ((clients : ℕ) → InFormAt (now (s .entry)) at keys clients → RecordSays (now (s .entry)) at keys clients r) ⌝ }
+{
+    let client = endian::byte_at(s, at + 4);
+    if endian::u16_at(s, at + 2) == 2 {
+        return Record::Shift {
+            client,
+            masks: at + 6,
+            next: at + (6 + 8 * keys),
+        };
+    }
+    let m = endian::byte_at(s, at + 5);
+    let masks = at + (10 + 8 * m);
+    Record::Commit {
+        client,
+        count: m,
+        session: endian::u32_at(s, at + 6),
+        operations: at + 10,
+        masks,
+        next: masks + 8 * keys,
+    }
 }

@@ -49,22 +49,24 @@ run-all-requires : tie.Need-run-all-requires
 run-all-requires c κs =
     let start = c .before .before .before .before .before .before .before .before .before .before .before .before .before .before .before .before .before .before .before .before in
     let w = start .pre .0 in
-    let o = c .before .before .before .before .before .before .before .before .before .before .before .before .before .before .before .before .before .opening in
-    omega (
-      arith,
-      ap length (o .ensures .0) ∙ length-replicate {A = ℕ} 2048 0,
-      ap length (o .ensures .1 .0) ∙ length-replicate {A = ℕ} 32 1,
-      ap length (o .ensures .1 .1 .0 .0) ∙ length-replicate {A = ℕ} 256 1,
-      ap length (o .ensures .1 .1 .0 .1) ∙ length-replicate {A = ℕ} 16 1,
-      ap length (o .ensures .1 .1 .1 .0) ∙ length-replicate {A = ℕ} 48 0,
-      ap length (o .ensures .1 .1 .1 .1) ∙ length-replicate {A = ℕ} 192 0,
-      ap length (o .ensures .1 .1 .1 .2) ∙ length-replicate {A = ℕ} 160 0,
-      w .some-key,
-      w .few-keys,
-      w .some-client,
-      w .few-clients,
-      w .few-records,
-      start .pre .1,
+    let o = c .before .before .before .before .before .before .before .before .before .before .before .before .before .before .before .before .before .opening in (
+      omega (arith, w .some-key, w .few-keys, w .few-clients, w .few-records, start .pre .1),
+      (
+        omega arith,
+        (
+          omega (
+            arith,
+            ap length (o .ensures .0) ∙ length-replicate {A = ℕ} 2048 0,
+            ap length (o .ensures .1 .0) ∙ length-replicate {A = ℕ} 32 1,
+            ap length (o .ensures .1 .1 .0 .0) ∙ length-replicate {A = ℕ} 256 1,
+            ap length (o .ensures .1 .1 .0 .1) ∙ length-replicate {A = ℕ} 16 1,
+            ap length (o .ensures .1 .1 .1 .0) ∙ length-replicate {A = ℕ} 48 0,
+            ap length (o .ensures .1 .1 .1 .1) ∙ length-replicate {A = ℕ} 192 0,
+            ap length (o .ensures .1 .1 .1 .2) ∙ length-replicate {A = ℕ} 160 0,
+          ),
+          (w .events, starts w (o .ensures .0) (o .ensures .1 .0) (o .ensures .1 .1 .0 .0) (o .ensures .1 .1 .0 .1) (o .ensures .1 .1 .1 .0) (o .ensures .1 .1 .1 .1) (o .ensures .1 .1 .1 .2) refl refl),
+        ),
+      ),
     )
 
 enum-known-ran : tie.Need-enum-known-ran
