@@ -14,7 +14,7 @@ use Rattle.store.specs.Update.{reads, writes, touches, update}
 use Rattle.store.specs.Missing.{missing}
 use Rattle.store.specs.Links.{wrote}
 use Rattle.store.specs.Refusal.{allOf, badMask, halfHeld, strayAt, stray}
-use Rattle.store.proofs.Sound.{IsView, FitsView}
+use Rattle.store.proofs.Sound.{SoundStore, FitsView}
 use Rattle.store.proofs.Missing.{missing-none}
 use Rattle.store.proofs.Legal.{view-is}
 use Rattle.store.proofs.Links.{history, held}
@@ -27,19 +27,20 @@ use Rattle.views.proofs.AddsOwn.{equal-sets}
 use Rattle.views.proofs.Codes.{stray-nowhere}
 use Rattle.views.proofs.Own.{OwnMet, own-unwritten, own-held, own-nowhere}
 
-module _ (s : Store) (u : View) (c : Commit) (made : Made s u c) (own : AddsOwn s u c) where
+module _ (s : Store) (u : View) (c : Commit) (sound : SoundStore s) (own : AddsOwn s u c) where
   -- clause 1
   pub own-lost-none : none ≡ missing s (allOf u) (c .viewAfter)
   own-lost-none = sym (missing-none s (allOf u) (c .viewAfter) .1 (λ k i _ _ t. own k i .1 (inl t)))
 
   -- clause 2
   pub own-missing-none : none ≡ missing (update s u c) (wrote (update s u c) (nextNumber s)) (c .viewAfter)
-  own-missing-none = own-nowhere s u c (made .sound) (s .keys) refl (λ k _. at k (T? (writes c k)))
+  own-missing-none = own-nowhere s u c sound (s .keys) refl (λ k _. at k (T? (writes c k)))
     where
       at : (k : Key) → Dec (T (writes c k)) → OwnMet s u c k
-      at k (yes w) = own-held s u c (made .sound) k (own k (count s k) .1 (inr (w, refl)))
-      at k (no n) = own-unwritten s u c (made .sound) k n
+      at k (yes w) = own-held s u c sound k (own k (count s k) .1 (inr (w, refl)))
+      at k (no n) = own-unwritten s u c sound k n
 
+module _ (s : Store) (u : View) (c : Commit) (made : Made s u c) (own : AddsOwn s u c) where
   -- codes 10 and 11
   fits-after : FitsView (update s u c .keys) (c .viewAfter)
   fits-after = rw (keys-after s u c made) (made .fits .after)
