@@ -120,9 +120,12 @@ module _ (i : ℕ) (g : Configuration) (c : Commit) where
   unfolding orElse mapSome
   late-none e h d = ap (λ (x : Option ℕ). orElse (mapSome (refuseKey 14 i) x) none) (sym d) ∙ late-rest e h
 
--- what the search of the masks is given
+-- what is known of the view before, and what the search of the masks is given
 module _ (g : Configuration) (c : Commit) (values versions keys fresh views seen : List ℕ) (client : ℕ) (ranks : Set) (n : ℕ)
     (l : LateGiven g c values versions keys fresh views seen client ranks n) (b : client < maxClients) where
+  pub late-holds : IsSet (getD seen client 0) (D.Holds (history (g .store)) (held (viewBefore g c)))
+  late-holds = subst (λ (d : ℕ). IsSet (getD seen client 0) (D.Holds (history (g .store)) (held (g .views d)))) (sym (l .client-is)) (l .in-views .holds client b)
+
   pub late-masks : Masks (storeAfter g c) (viewBefore g c) (c .viewAfter) n versions keys views (maxKeys * client) (getD seen client 0) fresh
   late-masks = record {
     arrays = record {
@@ -135,15 +138,13 @@ module _ (g : Configuration) (c : Commit) (values versions keys fresh views seen
     };
     ordered = ordered-commit (g .store) (viewBefore g c) c (l .made) (l .ordered);
     view = view-of-grown-store (g .store) (viewBefore g c) c (l .made .sound) (viewBefore g c) (l .made .view);
-    seen-is = isSet-as _ (λ t. let x = holds-kept (g .store) (viewBefore g c) c (l .made) (viewBefore g c) (l .made .view) t in (x .1, x .0)) holds;
+    seen-is = isSet-as _ (λ t. let x = holds-kept (g .store) (viewBefore g c) c (l .made) (viewBefore g c) (l .made .view) t in (x .1, x .0)) late-holds;
     in-fresh = l .in-fresh;
     fits = subst (λ (k : ℕ). FitsView k (c .viewAfter)) (l .keys-are) (l .made .fits .after)
   }
     where
       row : (k : ℕ) → k < n → getD views (maxKeys * client + k) 0 ≡ viewBefore g c k
       row k p = l .in-views .rows client b k (omega (arith, l .keys-are)) ∙ ap (λ (d : ℕ). g .views d k) (sym (l .client-is))
-      holds : IsSet (getD seen client 0) (D.Holds (history (g .store)) (held (viewBefore g c)))
-      holds = subst (λ (d : ℕ). IsSet (getD seen client 0) (D.Holds (history (g .store)) (held (g .views d)))) (sym (l .client-is)) (l .in-views .holds client b)
 
   -- the views after it, where the masks are kept as the client's
   pub late-kept : n ≤ maxKeys → (views′ : List ℕ) (m : ℕ) → Kept fresh (maxKeys * client) n views views′

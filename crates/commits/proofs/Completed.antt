@@ -2,6 +2,7 @@
 -- nothing.
 use Prim.Native.Nat.{ℕ, suc, _+_, _*_, _≤_, _<_}
 use mathlib.Core.Path.{_≡_, refl, sym, ap, _∙_, subst}
+use mathlib.Core.Bool.{Bool}
 use mathlib.Core.Logic.{_↔_}
 use mathlib.Core.Option.{Option, some, none}
 use mathlib.Core.List.{List, [], _∷_}
@@ -23,7 +24,9 @@ use Rattle.growth.proofs.Made.{Made, sound-after}
 use Rattle.trace.proofs.Fits.{commit-fits}
 use Rattle.levels.specs.Level.{Level, Failure, failsEvent, failsClauses, clausesOf}
 use Rattle.state.specs.Keeps.{IsSet, KeepsVersions, KeepsKeys, KeepsViews, KeepsMasks, KeepsOperations, Keeps}
+use Rattle.views.specs.Rows.{RowAt}
 use Rattle.views.specs.Rules.{StoreAndView}
+use Rattle.views.specs.Own.{AddsOwn}
 use Rattle.verdicts.specs.AtHand.{BeforeCommit}
 use Rattle.verdicts.specs.Verdicts.{KeepsVerdicts}
 use Rattle.making.specs.Commits.{CommitGiven, MadeIn}
@@ -52,9 +55,17 @@ module _ (g : Configuration) (c : Commit) (clients n : ℕ) (versions keys views
   holds : IsSet (getD seen client 0) (D.Holds (history (g .store)) (held (viewBefore g c)))
   holds = subst (λ (d : ℕ). IsSet (getD seen client 0) (D.Holds (history (g .store)) (held (g .views d)))) (sym own) (r .keeps .in-views .holds client below)
 
+  -- what the test of the view after says
+  pub plain-is : (plain : Bool)
+      → ((s : Store) (u : View) (k : Commit) (os : List ℕ) → Made s u k → s .commits < maxCommits → s .keys ≡ n → KeepsKeys s keys → RowAt n views (maxKeys * client) u
+          → KeepsMasks n (k .viewAfter) fresh → KeepsOperations k ranks os → T plain ↔ AddsOwn s u k)
+      → T plain → AddsOwn (g .store) (viewBefore g c) c
+  plain-is plain says = says (g .store) (viewBefore g c) c values made (let x = r .room-left in omega arith) (r .keys-are) (r .keeps .in-keys) row f o .0
+
   -- what the levels are given
-  pub before-commit : BeforeCommit (g .store) (viewBefore g c) c versions keys commits links views fresh values (getD seen client 0) ranks (maxKeys * client) n
-  before-commit = record {
+  pub before-commit : {plain : Bool} → (T plain → AddsOwn (g .store) (viewBefore g c) c)
+      → BeforeCommit (g .store) (viewBefore g c) c versions keys commits links views fresh values (getD seen client 0) ranks plain (maxKeys * client) n
+  before-commit adds = record {
     arrays = record {
       number = r .keys-are;
       sound = r .sound .store;
@@ -70,7 +81,8 @@ module _ (g : Configuration) (c : Commit) (clients n : ℕ) (versions keys views
     in-links = r .keeps .in-links;
     holds = holds;
     operations = o;
-    masks = f
+    masks = f;
+    adds-own = adds
   }
 
   -- what the making of the commit is given

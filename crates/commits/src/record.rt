@@ -60,7 +60,8 @@ fn begin(file: &[u8], at: CommitAt, versions: &[u64], views: &[u64], sessions: &
     Begun { outcome, ranks }
 }
 
-// A commit that is not refused before it is made: the levels judge it, it is made, and its view after is tested (codes 10, 11 and 14).
+// A commit that is not refused before it is made: the levels judge it, it is made, and its view after is tested (codes 10, 11 and 14). In the common
+// case that the view after is the view before and the commit's own versions, no search is made in it.
 fn complete(number: usize, client: usize, session: u32, ranks: u64, versions: &mut [u64], keys: &mut [u64], views: &mut [u64], seen: &mut [u64], sessions: &mut [u64], commits: &mut [u64], links: &mut [u64], verdicts: &mut [u64], values: &[u64], fresh: &[u64], n: usize, me: usize) -> Outcome
     requires { ⌜ (1 ≤ n) × (n ≤ 16) × (client < 16) × (me < 64) × (length (now values) ≡ 32) × (length (now fresh) ≡ 16) × (length (now verdicts) ≡ 40) ⌝ }
     requires { ⌜ (length (now versions) ≡ 2048) × (length (now keys) ≡ 32) × (length (now views) ≡ 256) × (length (now seen) ≡ 16) × (length (now sessions) ≡ 48) × (length (now commits) ≡ 192) × (length (now links) ≡ 160) ⌝ }
@@ -84,9 +85,10 @@ fn complete(number: usize, client: usize, session: u32, ranks: u64, versions: &m
         ⌝
     }
 {
-    verdicts::report::judge(verdicts, number, versions, keys, commits, links, views, 16 * client, fresh, seen[client], ranks, n);
+    let plain = views::masks::adds_own(fresh, views, 16 * client, keys, ranks, n);
+    verdicts::report::judge(verdicts, number, versions, keys, commits, links, views, 16 * client, fresh, seen[client], ranks, plain, n);
     making::make(versions, keys, views, sessions, commits, links, values, client, session, ranks, n, me);
-    late(versions, keys, fresh, views, seen, client, ranks, n)
+    late(versions, keys, fresh, views, seen, client, ranks, plain, n, me)
 }
 
 // A commit of the trace: its codes in their order; where none is due, the arrays keep the configuration after it, and each level that

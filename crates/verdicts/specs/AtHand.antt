@@ -1,7 +1,9 @@
 -- What is at hand where a commit is judged. Assumes nothing.
 use Prim.Native.Nat.{ℕ, _<_}
 use mathlib.Core.Path.{_≡_}
+use mathlib.Core.Bool.{Bool}
 use mathlib.Core.List.{List}
+use lib.Dec.{T}
 use Rattle.sets.specs.Set.{Set}
 use Rattle.dependencies.specs.History.{Holds}
 use Rattle.store.specs.Limits.{maxCommits}
@@ -14,6 +16,7 @@ use Rattle.state.specs.declared.Found.{Found}
 use Rattle.state.specs.Keeps.{IsSet, KeepsCommits, KeepsLinks, KeepsMasks, KeepsOperations}
 use Rattle.state.specs.Answers.{placeOf}
 use Rattle.views.specs.Rules.{StoreAndView}
+use Rattle.views.specs.Own.{AddsOwn}
 use Rattle.verdicts.specs.declared.Wanted.{Wanted}
 use Rattle.verdicts.specs.Wants.{Wants}
 
@@ -33,8 +36,9 @@ pub record Judging (s : Store) (u : View) (c : Commit) (w : Wanted) (lost own : 
   pub operations : KeepsOperations c ranks values
   pub arrays : StoreAndView s u n versions keys views base
 
--- before anything of commit c, made on view u of store s, is applied: the arrays keep s; u stands in `views` from `base` on, the view after in `fresh`
-pub record BeforeCommit (s : Store) (u : View) (c : Commit) (versions keys commits links views fresh values : List ℕ) (seen ranks : Set) (base n : ℕ) : Type 0 where
+-- before anything of commit c, made on view u of store s, is applied: the arrays keep s; u stands in `views` from `base` on, the view after in `fresh`;
+-- where `plain` says so, the view after is u and the commit's own versions
+pub record BeforeCommit (s : Store) (u : View) (c : Commit) (versions keys commits links views fresh values : List ℕ) (seen ranks : Set) (plain : Bool) (base n : ℕ) : Type 0 where
   pub arrays : StoreAndView s u n versions keys views base
   pub view : IsView s u
   pub sound-after : SoundStore (update s u c)
@@ -44,3 +48,4 @@ pub record BeforeCommit (s : Store) (u : View) (c : Commit) (versions keys commi
   pub holds : IsSet seen (Holds (history s) (held u))
   pub operations : KeepsOperations c ranks values
   pub masks : KeepsMasks n (c .viewAfter) fresh
+  pub adds-own : T plain → AddsOwn s u c

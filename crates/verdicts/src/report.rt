@@ -117,7 +117,8 @@ pub fn note(
 }
 
 // Judges a commit before anything of it is applied: the arrays keep the store, the view stands in `views` from `base` on and holds the commits `seen`,
-// `fresh` has the masks of the view after, and `number` is the record's.
+// `fresh` has the masks of the view after, and `number` is the record's. Where the view after is `plain`, the view before and the commit's own
+// versions, clauses 1 and 2 miss nothing.
 pub fn judge(
     verdicts: &mut [u64],
     number: usize,
@@ -130,13 +131,18 @@ pub fn judge(
     fresh: &[u64],
     seen: u64,
     ranks: u64,
+    plain: bool,
     n: usize,
 )
     requires { ⌜ (length (now verdicts) ≡ 40) × (n ≤ 16) × (length (now versions) ≡ 2048) × (length (now keys) ≡ 32) × (length (now commits) ≡ 192) × (length (now links) ≡ 160) × (base + n ≤ length (now views)) × (length (now fresh) ≡ 16) ⌝ }
-    ensures { λ _. ⌜ ((s : Store) (u : View) (c : Commit) (values : List ℕ) (fs : Level → Option Failure) → BeforeCommit s u c (now (versions .entry)) (now (keys .entry)) (now (commits .entry)) (now (links .entry)) (now (views .entry)) (now (fresh .entry)) values seen ranks base n → KeepsVerdicts fs (now (verdicts .entry)) → KeepsVerdicts (λ l. orElse (fs l) (failsClauses number s u c (clausesOf l))) (now (verdicts .exit))) ⌝ }
+    ensures { λ _. ⌜ ((s : Store) (u : View) (c : Commit) (values : List ℕ) (fs : Level → Option Failure) → BeforeCommit s u c (now (versions .entry)) (now (keys .entry)) (now (commits .entry)) (now (links .entry)) (now (views .entry)) (now (fresh .entry)) values seen ranks plain base n → KeepsVerdicts fs (now (verdicts .entry)) → KeepsVerdicts (λ l. orElse (fs l) (failsClauses number s u c (clausesOf l))) (now (verdicts .exit))) ⌝ }
 {
-    let lost = views::masks::lost(fresh, views, base, n);
-    let own = views::missing::least_own(keys, fresh, ranks, n);
+    let mut lost = state::Found::Nothing;
+    let mut own = state::Found::Nothing;
+    if !plain {
+        lost = views::masks::lost(fresh, views, base, n);
+        own = views::missing::least_own(keys, fresh, ranks, n);
+    }
     let w = clauses::wanted(keys, commits, links, seen, ranks, n);
     let failing = clauses::failing(w, lost, own);
     if failing == 0 {

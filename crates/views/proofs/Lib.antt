@@ -8,6 +8,8 @@ pub mod Agree
 pub mod Grown
 pub mod OpeningView
 pub mod AtOnce
+pub mod AddsOwn
+pub mod OwnView
 pub mod Written
 pub mod Rows
 pub mod Downward

@@ -5,14 +5,18 @@ ghost use Prim.Native.Nat.{ℕ, _+_, _<_, _≤_};
 ghost use lib.Dec.{T};
 ghost use lib.ListN.{length, getD};
 ghost use mathlib.Core.List.{List};
+ghost use Rattle.sets.specs.Set.{union};
+ghost use Rattle.store.specs.Limits.{maxCommits};
 ghost use Rattle.store.specs.Store.{View, Store, Commit};
 ghost use Rattle.store.specs.Missing.{missing};
 ghost use Rattle.store.specs.Refusal.{badMask, allOf, stray};
 ghost use Rattle.store.proofs.Sound.{IsView};
+ghost use Rattle.growth.proofs.Made.{Made};
 ghost use Rattle.state.specs.Keeps.{KeepsKeys, KeepsMasks, KeepsOperations};
 ghost use Rattle.state.specs.Answers.{placeOf, keyOf};
 ghost use Rattle.views.specs.Rows.{RowAt, Kept};
 ghost use Rattle.views.specs.Strays.{strays};
+ghost use Rattle.views.specs.Own.{AddsOwn, ownMask};
 
 // Code 10: the least key whose mask lacks version 0 or holds a version that does not exist.
 pub fn bad_mask(fresh: &[u64], keys: &[u64], n: usize) -> state::FoundKey
@@ -91,6 +95,39 @@ pub fn same(fresh: &[u64], masks: &[u64], base: usize, n: usize) -> bool
         k = k + 1;
     }
     true
+}
+
+// Where a mask is not the view's with the version that is appended to key k; `full` is the key's mask before. The version's bit is one more than
+// that; the sum wraps only where there are 64 versions, which is so in no store with room for a commit.
+fn apart(mask: u64, view: u64, full: u64, ranks: u64, k: usize) -> u64
+    requires { ⌜ k < 16 ⌝ }
+    ensures { λ r. ⌜ (r ≡ 0) ↔ (mask ≡ union view (ownMask full ranks k)) ⌝ }
+{
+    let next = std::num::wrapping_add_u64(full, 1);
+    let own = if sets::has(ranks, 2 * k + 1) { next } else { 0 };
+    mask ^ (view | own)
+}
+
+// Whether the masks are those at `base` with the versions that the commit appends, where the keys are those before the commit. All keys are looked
+// at, with no branch.
+pub fn adds_own(
+    fresh: &[u64],
+    views: &[u64],
+    base: usize,
+    keys: &[u64],
+    ranks: u64,
+    n: usize,
+) -> bool
+    requires { ⌜ (n ≤ 16) × (length (now fresh) ≡ 16) × (base + n ≤ length (now views)) × (length (now keys) ≡ 32) ⌝ }
+    ensures { λ r. ⌜ ((s : Store) (u : View) (c : Commit) (values : List ℕ) → Made s u c → s .commits < maxCommits → s .keys ≡ n → KeepsKeys s (now (keys .entry)) → RowAt n (now (views .entry)) base u → KeepsMasks n (c .viewAfter) (now (fresh .entry)) → KeepsOperations c ranks values → T r ↔ AddsOwn s u c) ⌝ }
+{
+    let mut all = 0u64;
+    let mut k: usize = 0;
+    while k < n {
+        all = sets::union(all, apart(fresh[k], views[base + k], keys[k], ranks, k));
+        k = k + 1;
+    }
+    all == 0
 }
 
 // The masks become the view at `base`.
