@@ -125,7 +125,7 @@ pub fn sources(
         let k = sets::lowest(left) / 2;
         let writer = writer_seen(versions, views, base, k);
         from = sets::union(from, sets::single(writer));
-        over = sets::union(over, sets::without(keys[16 + k], sets::below(writer + 1)));
+        over = sets::union(over, sets::without(keys[16 + k], sets::up_to(writer)));
         left = sets::rest(left);
     }
     Reads { from, over }

@@ -1,6 +1,6 @@
 // Sets of numbers below 64, each in a u64: bit i stands for i. What each function answers is a definition of specs/Set.antt.
 ghost use mathlib.Core.Path.{_≡_};
-ghost use Prim.Native.Nat.{_<_, _≤_};
+ghost use Prim.Native.Nat.{_+_, _<_, _≤_};
 ghost use Rattle.sets.specs.Set.{has, single, insert, union, without, below, highest, lowest, size};
 
 // Whether the set holds i.
@@ -51,6 +51,15 @@ pub fn below(n: usize) -> u64
     } else {
         (1u64 << n) - 1
     }
+}
+
+// All numbers up to i.
+pub fn up_to(i: usize) -> u64
+    requires { ⌜ i < 64 ⌝ }
+    ensures { λ r. ⌜ r ≡ below (i + 1) ⌝ }
+{
+    let last = single(i);
+    (last - 1) | last
 }
 
 // The greatest number that the set holds.

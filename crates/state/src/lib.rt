@@ -34,7 +34,7 @@ pub enum FoundKey {
 pub fn newest(mask: u64) -> usize
     ensures { λ r. ⌜ (r ≡ highest mask) × (r < 64) ⌝ }
 {
-    if mask == 0 { 0 } else { sets::highest(mask) }
+    sets::highest(mask | 1)
 }
 
 // The keys below n that have an operation of this access (0 for reads, 1 for writes), as the set of twice their numbers. A loop over it

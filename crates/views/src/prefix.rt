@@ -55,7 +55,7 @@ pub fn split(versions: &[u64], keys: &[u64], fresh: &[u64], n: usize) -> Parts
     while k < n {
         let writer = missing::writer_of(versions[crate::PER_KEY * k + state::newest(fresh[k])]);
         let writers = keys[crate::WRITERS + k];
-        let later = sets::without(writers, sets::below(writer + 1));
+        let later = sets::without(writers, sets::up_to(writer));
         held = sets::union(held, sets::without(writers, later));
         lacking = sets::union(lacking, later);
         k = k + 1;

@@ -52,11 +52,8 @@ mul-without c = search needs
 shared-slice-read-without : tie.Need-shared-slice-read-without Inv-loop μ-loop
 shared-slice-read-without c = let l = turn-below (c .before .before .before .before .before .before .loop .inv .2) (omega arith) (c .before .before .before .before .lowest .ensures .0) in omega (arith, l)
 
-add-below : tie.Need-add-below Inv-loop μ-loop
-add-below c = search needs
-
-below-requires : tie.Need-below-requires Inv-loop μ-loop
-below-requires c κs = search needs
+up-to-requires : tie.Need-up-to-requires Inv-loop μ-loop
+up-to-requires c κs = search needs
 
 without-requires : tie.Need-without-requires Inv-loop μ-loop
 without-requires c κs = search needs
@@ -81,7 +78,7 @@ loop-again c =
       λ s u d values g kept o.
           let w = c .before .before .before .before .before .before .before .writer-seen .ensures .1 s u d values _ _ g l in (
             reads-turn g h (readAt s u d) (λ q t x. x .0) _ (p s u d values g kept o .0) (omega arith) q _ (c .before .before .before .before .before .union .ensures) (source-read g _ l r w (c .before .before .before .before .before .before .single .ensures)),
-            reads-turn g h (laterAt s u d) (λ q t x. x .0) _ (p s u d values g kept o .1) (omega arith) q _ (c .before .union2 .ensures) (later-read g _ l r w o kept (c .before .before .before .below .ensures) (c .before .before .without .ensures)),
+            reads-turn g h (laterAt s u d) (λ q t x. x .0) _ (p s u d values g kept o .1) (omega arith) q _ (c .before .union2 .ensures) (later-read g _ l r w o kept (c .before .before .before .up-to .ensures) (c .before .before .without .ensures)),
           ),
     )
 
@@ -105,8 +102,7 @@ sources-spec =
     add-without
     mul-without
     shared-slice-read-without
-    add-below
-    below-requires
+    up-to-requires
     without-requires
     union-requires-2
     rest-requires

@@ -1,19 +1,15 @@
--- `state::newest` meets its contract. An empty mask has 0 for its highest number. Assumes nothing.
-use mathlib.Core.Path.{sym, ap, _∙_}
+-- `state::newest` meets its contract. Assumes nothing.
+use mathlib.Core.Path.{_∙_}
 use borrow.Author.Needs.{needs}
-use Rattle.sets.specs.Set.{highest}
-use Rattle.state.proofs.Sets.{highest-none}
+use Rattle.state.proofs.Sets.{opened-some, highest-opened}
 use Rattle.state.proofs.newest.Statement.{statement}
 use Rattle.state.proofs.newest.Tie as tie
 
 highest-requires : tie.Need-highest-requires
-highest-requires c κs = search needs
+highest-requires c κs = opened-some (c .args .mask)
 
 returns : tie.Need-returns
-returns c = (sym (ap highest (c .if1 .taken) ∙ highest-none), search needs)
-
-returns-2 : tie.Need-returns-2
-returns-2 c = search needs
+returns c = (c .highest .ensures .0 ∙ highest-opened (c .before .args .mask) (c .before .fits .mask .fits), search needs)
 
 pub newest-spec : {M : Type 1} → statement M
-newest-spec = tie.close (tie.spec highest-requires returns returns-2)
+newest-spec = tie.close (tie.spec highest-requires returns)

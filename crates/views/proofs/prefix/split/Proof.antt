@@ -59,11 +59,8 @@ mul-writers c = search needs
 shared-slice-read-writers : tie.Need-shared-slice-read-writers Inv-loop μ-loop
 shared-slice-read-writers c = search needs
 
-add-below : tie.Need-add-below Inv-loop μ-loop
-add-below c = search needs
-
-below-requires : tie.Need-below-requires Inv-loop μ-loop
-below-requires c κs = search needs
+up-to-requires : tie.Need-up-to-requires Inv-loop μ-loop
+up-to-requires c κs = search needs
 
 without-requires : tie.Need-without-requires Inv-loop μ-loop
 without-requires c κs = search needs
@@ -88,8 +85,8 @@ loop-again c = (
       omega arith,
       λ s old u masks base seen m p.
           let x = c .before .before .before .before .before .before .before .before .before .before .before .loop .inv .1 s old u masks base seen m p in
-          let l = later-is s old u _ _ _ masks base seen _ m p _ (omega arith) (c .before .before .before .before .before .before .before .before .newest .ensures .0) (c .before .before .before .before .before .before .writer-of .ensures .0) (c .before .before .before .before .below .ensures) (c .before .before .before .without .ensures) in
-          let h = held-is s old u _ _ _ masks base seen _ m p _ (omega arith) (c .before .before .before .before .before .before .before .before .newest .ensures .0) (c .before .before .before .before .before .before .writer-of .ensures .0) (c .before .before .before .before .below .ensures) (c .before .before .before .without .ensures) (c .before .before .without2 .ensures) in (
+          let l = later-is s old u _ _ _ masks base seen _ m p _ (omega arith) (c .before .before .before .before .before .before .before .before .newest .ensures .0) (c .before .before .before .before .before .before .writer-of .ensures .0) (c .before .before .before .before .up-to .ensures) (c .before .before .before .without .ensures) in
+          let h = held-is s old u _ _ _ masks base seen _ m p _ (omega arith) (c .before .before .before .before .before .before .before .before .newest .ensures .0) (c .before .before .before .before .before .before .writer-of .ensures .0) (c .before .before .before .before .up-to .ensures) (c .before .before .before .without .ensures) (c .before .before .without2 .ensures) in (
             key-more (HeldAt s old u _ _ _ masks base seen _ m) _ (x .0) _ h (c .before .union .ensures),
             key-more (LackedAt s old u _ _ _ masks base seen _ m) _ (x .1) _ l (c .union2 .ensures),
           ),
@@ -120,8 +117,7 @@ split-spec =
     add-writers
     mul-writers
     shared-slice-read-writers
-    add-below
-    below-requires
+    up-to-requires
     without-requires
     without-requires-2
     union-requires
