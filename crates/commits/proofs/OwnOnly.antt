@@ -1,23 +1,23 @@
 -- A commit whose view after is the view before and its own versions. Assumes nothing.
-use Prim.Native.Nat.{ℕ, suc, _+_, _*_, _/_, _%_, _^_, _≤_, _<_}
-use mathlib.Core.Path.{_≡_, refl, sym, ap, _∙_, subst}
+use Prim.Native.Nat.{ℕ, _+_, _*_, _/_, _%_, _^_, _≤_, _<_}
+use mathlib.Core.Path.{_≡_, sym, _∙_, subst}
 use mathlib.Core.Bool.{Bool, not}
-use mathlib.Core.Logic.{_↔_, _≢_}
+use mathlib.Core.Logic.{_≢_}
 use mathlib.Core.Option.{none}
 use mathlib.Core.List.{List}
 use native.Mathlib.Omega.{arith}
-use lib.Dec.{T, eqb, eqb→eq, not-T, lit<}
+use lib.Dec.{T, eqb, eqb→eq, not-T}
 use lib.Bits.{bitAnd, and-le-l}
 use lib.ListN.{getD, set}
 use Rattle.search.specs.Search.{any}
-use Rattle.search.proofs.Tests.{both, stable, eq-test}
+use Rattle.search.proofs.Tests.{stable, eq-test}
 use Rattle.search.proofs.Search.{any-in}
 use Rattle.sets.specs.Set.{Set, has, single, union, lowest}
 use Rattle.sets.proofs.Laws.{has-lt, has-lowest}
 use Rattle.sets.proofs.Algebra.{empty-is}
 use Rattle.store.specs.Limits.{maxKeys, maxClients}
 use Rattle.store.specs.Store.{Configuration, nextNumber, Commit, commit}
-use Rattle.store.specs.Update.{writes, step, viewBefore}
+use Rattle.store.specs.Update.{step, viewBefore}
 use Rattle.growth.proofs.Made.{Writes}
 use Rattle.state.specs.Keeps.{IsSet, KeepsOperations, KeepsViews}
 use Rattle.state.proofs.Sets.{isSet-as, isSet-none, isSet-single}
@@ -35,7 +35,7 @@ use Rattle.commits.proofs.Cases.{late-none, late-holds, late-kept}
 abbrev odds : Set
 odds = 0xAAAAAAAAAAAAAAAA
 
--- a place where the digit is not that of an odd number
+-- a place where the digit does not say whether the place is odd: there is none below 64, which is computed
 abbrev astray : ℕ → Bool
 astray i = not (eqb (odds / 2 ^ i % 2) (i % 2))
 
@@ -43,8 +43,9 @@ odd-digit : (i : ℕ) → i < 64 → odds / 2 ^ i % 2 ≡ i % 2
 unfolding any
 odd-digit i l = eqb→eq _ _ (stable (eqb (odds / 2 ^ i % 2) (i % 2)) (λ n. any-in 64 astray i l (not-T (eqb (odds / 2 ^ i % 2) (i % 2)) n)))
 
+-- the ranks of writes are the odd ones
 module _ (c : Commit) (ranks : Set) (values : List ℕ) (h : KeepsOperations c ranks values) (word : ranks < 2 ^ 64) where
-  pub writes-some : bitAnd ranks odds ≢ 0 → Writes c
+  writes-some : bitAnd ranks odds ≢ 0 → Writes c
   writes-some n =
       let m = bitAnd ranks odds in
       let x = both-is ranks odds (lowest m) .0 (has-lowest m (omega arith) (omega (arith, and-le-l ranks odds))) in
@@ -52,13 +53,13 @@ module _ (c : Commit) (ranks : Set) (values : List ℕ) (h : KeepsOperations c r
       let same : lowest m ≡ 2 * (lowest m / 2) + 1 = omega arith in
       (lowest m / 2, subst T (sym (writes-is c ranks values h (lowest m / 2))) (subst (λ (i : ℕ). T (has ranks i)) same (x .0)))
 
-  pub writes-none : bitAnd ranks odds ≡ 0 → ¬ Writes c
+  writes-none : bitAnd ranks odds ≡ 0 → ¬ Writes c
   writes-none e (k, w) =
       let t : T (has ranks (2 * k + 1)) = subst T (writes-is c ranks values h k) w in
       let odd : (2 * k + 1) % 2 ≡ 1 = omega arith in
       empty-is (bitAnd ranks odds) .0 e (2 * k + 1) (both-is ranks odds (2 * k + 1) .1 (t, eq-test _ 1 (odd-digit (2 * k + 1) (has-lt 64 ranks (2 * k + 1) word t) ∙ odd)))
 
--- the set of its number, where it does
+-- the set of its number where it does, and the empty one where it does not
 module _ (ranks : Set) (me : ℕ) (word : ranks < 2 ^ 64) (c : Commit) (values : List ℕ) (h : KeepsOperations c ranks values) where
   pub number-none : bitAnd ranks odds ≡ 0 → IsSet 0 (λ t. (t ≡ me) × Writes c)
   number-none e = isSet-none (λ t (_, w). writes-none c ranks values h word e w)

@@ -1,3 +1,4 @@
+-- `commits::late::late` meets its contract. Assumes nothing.
 use mathlib.Core.Path.{refl, sym, ap, subst, _∙_}
 use native.Mathlib.Omega.{arith}
 use Rattle.search.proofs.Tests.{true-T}

@@ -1,3 +1,4 @@
+-- `commits::record::complete` meets its contract. Assumes nothing.
 use native.Mathlib.Omega.{arith}
 use Rattle.store.specs.Update.{viewBefore}
 use Rattle.commits.proofs.Completed.{plain-is, before-commit, commit-given, late-given, kept-after, noted}
