@@ -16,7 +16,7 @@ use Rattle.growth.proofs.Made.{Made, Operates, CommitBy}
 use Rattle.growth.proofs.Links.{FromSession}
 use Rattle.state.specs.Keeps.{IsSet, CommitOf}
 use Rattle.state.proofs.Sets.{isSet-as, isSet-none}
-use Rattle.operations.specs.Given.{Given, Writing}
+use Rattle.operations.specs.Given.{Given}
 use Rattle.making.specs.Commits.{CommitGiven}
 use Rattle.making.proofs.Operating.{idle-ranks, busy-ranks}
 
@@ -33,9 +33,6 @@ module _ (s : Store) (u : View) (c : Commit) (versions keys views sessions value
     row = g .row;
     operations = g .operations
   }
-
-  pub as-writing : Writing s c keys values ranks n
-  as-writing = record { keys-are = g .keys-are; fits = g .made .fits; in-keys = g .in-keys; operations = g .operations }
 
   -- what SO leads from: the commits of the client, where there is an operation
   pub led-before : client < maxClients → ranks < 2 ^ 64 → IsSet (choose (eqb ranks 0) 0 (getD sessions client 0)) (FromSession s c)

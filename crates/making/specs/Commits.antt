@@ -7,9 +7,7 @@ use Rattle.store.specs.Limits.{maxKeys, maxClients, maxCommits}
 use Rattle.store.specs.Store.{View, Store, nextNumber, Commit}
 use Rattle.growth.proofs.Made.{Made}
 use Rattle.growth.proofs.Ordered.{Ordered}
-use Rattle.growth.proofs.Links.{FromSession, FromRead, FromWrite, ToLater}
-use Rattle.state.specs.Keeps.{IsSet, RowIs, KeepsOperations, KeepsVersions, KeepsKeys, KeepsSessions, KeepsCommits, KeepsLinks}
-use Rattle.making.specs.declared.Led.{Led}
+use Rattle.state.specs.Keeps.{RowIs, KeepsOperations, KeepsVersions, KeepsKeys, KeepsSessions, KeepsCommits, KeepsLinks}
 
 -- commit c of a client, on view u of store s; the store, the view and the operations are in the arrays
 pub record CommitGiven (s : Store) (u : View) (c : Commit) (versions keys views sessions values : List ℕ) (client : ℕ) (ranks : Set) (n : ℕ) : Type 0 where
@@ -23,13 +21,6 @@ pub record CommitGiven (s : Store) (u : View) (c : Commit) (versions keys views 
   pub row : RowIs n views client u
   pub in-sessions : KeepsSessions s sessions
   pub operations : KeepsOperations c ranks values
-
--- the sets of commits are those that links lead from and to
-pub record LedSays (s : Store) (u : View) (c : Commit) (r : Led) : Type 0 where
-  pub by-session : IsSet (r .before) (FromSession s c)
-  pub by-read : IsSet (r .sources) (FromRead s u c)
-  pub by-write : IsSet (r .earlier) (FromWrite s c)
-  pub to-later : IsSet (r .over) (ToLater s u c)
 
 -- the arrays of the store keep it
 pub record MadeIn (s : Store) (versions keys sessions commits links : List ℕ) : Type 0 where

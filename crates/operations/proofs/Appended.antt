@@ -21,14 +21,18 @@ use Rattle.store.specs.Limits.{maxKeys, maxCommits}
 use Rattle.store.specs.Store.{Key, VersionNumber, CommitNumber, Value, Version, openingVersion, View, Store, count, version, nextNumber, read, write, Commit}
 use Rattle.store.specs.Update.{valueOf, writes, newest, append, update}
 use Rattle.store.proofs.Updated.{note-length, append-none}
+use Rattle.growth.proofs.Links.{FromWrite}
 use Rattle.state.specs.Places.{perKey, headPlace, readersPlace, fullPlace, writersPlace, packed}
 use Rattle.state.specs.Keeps.{IsSet, KeepsVersions, KeepsKeys}
 use Rattle.state.specs.Accesses.{Left}
 use Rattle.state.proofs.Sets.{isSet-as, isSet-insert}
 use Rattle.state.proofs.Accesses.{next-key, left-none}
+use Rattle.state.proofs.Below.{From, from-turn, from-passed}
 use Rattle.operations.specs.Given.{Given, Appending}
+use Rattle.operations.specs.PerKey.{writtenAt}
 use Rattle.operations.specs.Change.{freeBit, free, versionAdded, keyGrown, readsNoted, writesAppended}
-use Rattle.operations.proofs.Noted.{keys-noted}
+use Rattle.operations.proofs.Reading.{writes-rank}
+use Rattle.operations.proofs.Noted.{noted-wrote, keys-noted}
 use Rattle.operations.proofs.Rows.{VersionAt, Row, WroteIn, KeyRow, rows-of, of-rows, row-other, key-other, Passed, pass-none, pass-key, pass-skip}
 
 -- ---- the next version of a key
@@ -150,6 +154,9 @@ module _ {s : Store} {c : Commit} {versions keys values : List ℕ} {ranks n : �
     });
   }
 
+  unwritten : (j : ℕ) → ¬ T (has ranks (2 * j + 1)) → (a : ℕ) → ¬ writtenAt s c j a
+  unwritten j m a y = m (subst T (writes-rank (g .operations) j) (y .0))
+
   -- keys that are not written are passed at once
   skipped : (k q : ℕ) (vs ks : List ℕ) → k ≤ q → q ≤ n → ((j : ℕ) → k ≤ j → j < q → ¬ T (has ranks (2 * j + 1))) → WritesPassed s c t n k vs ks → WritesPassed s c t n q vs ks
   skipped k q vs ks l m none p = record {
@@ -186,6 +193,13 @@ module _ {s : Store} {c : Commit} {versions keys values : List ℕ} {ranks n : �
     grows : writesAppended s c t .versions q ≡ (s .versions q ++ (new x t ∷ []))
     grows = rw (g .operations .writes q) (appended-written (has ranks (2 * q + 1)) (next-key h pos d .2) x t (s .versions q))
 
+    -- and its writers before
+    pub earlier-turn : (found : Set) → IsSet found (From (writtenAt s c) k) → {next : Set} → next ≡ union found (getD ks (writersPlace q) 0) → IsSet next (From (writtenAt s c) (q + 1))
+    earlier-turn found y e =
+        let (b, _, r, none) = next-key h pos d in
+        from-turn (writtenAt s c) found y b (λ j a o. unwritten j (none j a o)) _
+        (isSet-as _ (λ a. (λ z. (subst T (sym (writes-rank (g .operations) q)) r, z), λ (_, z). z)) (here .writers)) e
+
     pub write-appended : {vs′ ks′ : List ℕ} → vs′ ≡ versionAdded vs (headPlace q (free ks q)) (bitOr x (t * 2 ^ 32)) → ks′ ≡ keyGrown ks q (freeBit ks q) t
         → WritesPassed s c t n (q + 1) vs′ ks′
     write-appended e z = record {
@@ -206,6 +220,11 @@ module _ {s : Store} {c : Commit} {versions keys values : List ℕ} {ranks n : �
       go : Dec (T (writes c k)) → k < n
       go (yes w) = omega (arith, g .write-keys k w, g .keys-are)
       go (no m) = omega (arith, g .only-keys k i (subst (λ (vs : List Version). i < length vs) (append-none (valueOf write (c .operations) k) t (s .versions k) m) l), g .keys-are)
+
+  pub all-earlier : {k : ℕ} {left : Set} → Left ranks 1 n k left → k ≤ n → left ≡ 0 → (found : Set) → IsSet found (From (writtenAt s c) k) → IsSet found (FromWrite s c)
+  all-earlier h l e found y =
+      isSet-as found (λ a. (λ (q, _, (r, x)). (q, r, x), λ (q, r, x). (q, omega (arith, g .write-keys q r, g .keys-are), (r, x))))
+      (from-passed (writtenAt s c) found y l (λ j a b. unwritten j (left-none h e j a b)))
 
   pub writes-appended : {k : ℕ} {left : Set} → Left ranks 1 n k left → (vs ks : List ℕ) → k ≤ n → left ≡ 0 → length vs ≡ 2 * (perKey * maxKeys) → length ks ≡ 2 * maxKeys
       → WritesPassed s c t n k vs ks → KeepsVersions (writesAppended s c t) vs × KeepsKeys (writesAppended s c t) ks
@@ -237,6 +256,10 @@ module _ {s : Store} {u : View} {c : Commit} {versions views : List ℕ} {base :
     where
       noted-length : (k : Key) → count (readsNoted s u c t) k ≡ count s k
       noted-length k = note-length (valueOf read (c .operations) k) (newest u k) t (s .versions k)
+
+  -- the readers noted change no writer
+  pub same-earlier : (m : Set) → IsSet m (FromWrite (readsNoted s u c t) c) → IsSet m (FromWrite s c)
+  same-earlier m = isSet-as m (λ a. (λ (k, w, (i, x)). (k, w, (i, noted-wrote g t a k i .1 x)), λ (k, w, (i, x)). (k, w, (i, noted-wrote g t a k i .0 x))))
 
   -- "Reads add the commit to that version's readers; writes append": the two together are the update
   pub performed : t ≡ nextNumber s → (vs ks : List ℕ)

@@ -3,4 +3,3 @@ pub mod PerKey
 pub mod Rows
 pub mod Noted
 pub mod Appended
-pub mod Kept

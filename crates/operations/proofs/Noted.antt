@@ -1,8 +1,8 @@
 -- A read noted in the arrays is noted in the store. Assumes nothing.
-use Prim.Native.Nat.{ℕ, _+_, _*_, _/_, _≤_, _<_}
+use Prim.Native.Nat.{ℕ, _+_, _*_, _/_, _%_, _^_, _≤_, _<_}
 use mathlib.Core.Path.{_≡_, refl, sym, ap, _∙_, subst}
 use mathlib.Core.Bool.{Bool, true, false}
-use mathlib.Core.Logic.{_≢_}
+use mathlib.Core.Logic.{_↔_, _≢_}
 use mathlib.Core.List.{List}
 use native.Mathlib.Omega.{arith}
 use native.Mathlib.Decide.{ℕ-discrete}
@@ -22,7 +22,7 @@ use Rattle.state.proofs.Sets.{isSet-as}
 use Rattle.state.proofs.Accesses.{next-key, left-none}
 use Rattle.operations.specs.Given.{Given}
 use Rattle.operations.specs.Change.{readerAdded, readsNoted}
-use Rattle.operations.proofs.Reading.{seen-exists}
+use Rattle.operations.proofs.Reading.{seen-exists, writer-packed}
 use Rattle.operations.proofs.Rows.{VersionAt, Row, rows-of, of-rows, row-other, Passed, pass-none, pass-key, pass-skip}
 
 -- one version of a key gains a reader
@@ -102,28 +102,34 @@ module _ {s : Store} {u : View} {c : Commit} {versions views : List ℕ} {base :
         (λ j m o vs. noted-other before q (newest u q) t (omega arith) (omega arith) j m (omega arith) vs)
         (λ w. rw (g .operations .reads q, noted-read (has ranks (2 * q)) r (getD values (2 * q) 0) (newest u q) t (s .versions q)) (reader-added before q (newest u q) t (s .versions q) (omega arith) x w)))
 
+    -- the version that the key of the turn is read from has its writer still
+    pub writer-left : 0 < left → {q : ℕ} → q ≡ lowest left / 2 → (a : List ℕ) → ReadsPassed s u c t n k a
+        → getD a (headPlace q (highest (getD views (base + q) 0))) 0 / 2 ^ 32 % 64 ≡ version s q (newest u q) .writer
+    writer-left pos {q} d a p =
+        let (b, l, _, _) = next-key h pos d in
+        let x : newest u q < count s q = seen-exists g q l in
+        let v = p .left q b l .each (newest u q) x in
+        rw (g .row q l) (writer-packed g q x (v .head))
+
     pub reads-noted : (a : List ℕ) → k ≤ n → left ≡ 0 → length a ≡ 2 * (perKey * maxKeys) → ReadsPassed s u c t n k a → KeepsVersions (readsNoted s u c t) a
     reads-noted a l e room p =
         of-rows (readsNoted s u c t) a n room
         (λ q i m. omega (arith, g .sound .only-keys q i (rw (note-length (valueOf read (c .operations) q) (newest u q) t (s .versions q)) at m), g .keys-are))
         (λ q m. skipped k n a l (omega arith) (λ j x y. left-none h e j x y) p .done q m)
 
+  noted-length : (k : Key) → count (readsNoted s u c t) k ≡ count s k
+  noted-length k = note-length (valueOf read (c .operations) k) (newest u k) t (s .versions k)
+
+  same-writer : (k i : ℕ) → i < count s k → version (readsNoted s u c t) k i .writer ≡ version s k i .writer
+  same-writer k i l = note-writer (valueOf read (c .operations) k) (newest u k) t (s .versions k) i l
+
   -- versions keep their writers
+  pub noted-wrote : (a k i : ℕ) → Wrote s a k i ↔ Wrote (readsNoted s u c t) a k i
+  noted-wrote a k i = (λ (l, e). (rw (noted-length k) l, same-writer k i l ∙ e), λ (l, e). let m : i < count s k = rw (noted-length k) at l in (m, sym (same-writer k i m) ∙ e))
+
   pub keys-noted : {keys : List ℕ} → KeepsKeys s keys → KeepsKeys (readsNoted s u c t) keys
   keys-noted h = record {
     room = h .room;
     full = λ k l. h .full k l ∙ ap below (sym (noted-length k));
-    writers = λ k l. isSet-as _ (λ a. (λ (i, w). (i, into a k i w), λ (i, w). (i, out a k i w))) (h .writers k l);
+    writers = λ k l. isSet-as _ (λ a. (λ (i, w). (i, noted-wrote a k i .0 w), λ (i, w). (i, noted-wrote a k i .1 w))) (h .writers k l);
   }
-    where
-      noted-length : (k : Key) → count (readsNoted s u c t) k ≡ count s k
-      noted-length k = note-length (valueOf read (c .operations) k) (newest u k) t (s .versions k)
-
-      same-writer : (k i : ℕ) → i < count s k → version (readsNoted s u c t) k i .writer ≡ version s k i .writer
-      same-writer k i l = note-writer (valueOf read (c .operations) k) (newest u k) t (s .versions k) i l
-
-      into : (a k i : ℕ) → Wrote s a k i → Wrote (readsNoted s u c t) a k i
-      into a k i (l, e) = (rw (noted-length k) l, same-writer k i l ∙ e)
-
-      out : (a k i : ℕ) → Wrote (readsNoted s u c t) a k i → Wrote s a k i
-      out a k i (l, e) = let m : i < count s k = rw (noted-length k) at l in (m, sym (same-writer k i m) ∙ e)

@@ -15,16 +15,16 @@ use Rattle.store.specs.Store.{Key, View, Store, version, Commit}
 use Rattle.store.specs.Update.{reads, writes, newest}
 use Rattle.store.proofs.Updated.{Wrote}
 use Rattle.growth.proofs.Ordered.{Ordered}
-use Rattle.growth.proofs.Links.{FromRead, FromWrite, ToLater}
+use Rattle.growth.proofs.Links.{FromRead, ToLater}
 use Rattle.state.specs.Places.{writersPlace}
 use Rattle.state.specs.Keeps.{IsSet, KeepsKeys, WroteKey}
 use Rattle.state.specs.Accesses.{Left}
 use Rattle.state.proofs.Sets.{isSet-as, isSet-single, isSet-without}
 use Rattle.state.proofs.Accesses.{next-key, left-none}
 use Rattle.state.proofs.Below.{From, from-turn, from-passed}
-use Rattle.operations.specs.Given.{Given, Writing}
-use Rattle.operations.specs.PerKey.{readAt, laterAt, writtenAt}
-use Rattle.operations.proofs.Reading.{reads-rank, writes-rank, seen-exists}
+use Rattle.operations.specs.Given.{Given}
+use Rattle.operations.specs.PerKey.{readAt, laterAt}
+use Rattle.operations.proofs.Reading.{reads-rank, seen-exists}
 
 module _ {s : Store} {u : View} {c : Commit} {versions views : List ℕ} {base : ℕ} {values : List ℕ} {ranks n : ℕ}
     (g : Given s u c versions views base values ranks n) where
@@ -88,19 +88,3 @@ module _ {s : Store} {u : View} {c : Commit} {versions views : List ℕ} {base :
 
   pub all-later : k ≤ n → left ≡ 0 → (found : Set) → IsSet found (From (laterAt s u c) k) → IsSet found (ToLater s u c)
   all-later l e found p = isSet-as found (λ t. (λ (q, (r, x)). (q, r, x), λ (q, r, x). (q, (r, x)))) (reads-all (laterAt s u c) (λ q t x. x .0) found p l e)
-
-module _ {s : Store} {c : Commit} {keys : List ℕ} {values : List ℕ} {ranks n : ℕ} (g : Writing s c keys values ranks n) {k : ℕ} {left : Set} (h : Left ranks 1 n k left) (found : Set)
-    (p : IsSet found (From (writtenAt s c) k)) where
-  unwritten : (j : ℕ) → ¬ T (has ranks (2 * j + 1)) → (t : ℕ) → ¬ writtenAt s c j t
-  unwritten j m t y = m (subst T (writes-rank (g .operations) j) (y .0))
-
-  pub writes-turn : 0 < left → {q : ℕ} → q ≡ lowest left / 2 → {next : Set} → next ≡ union found (getD keys (writersPlace q) 0) → IsSet next (From (writtenAt s c) (q + 1))
-  writes-turn a {q} e z =
-      let (b, l, t, none) = next-key h a e in
-      from-turn (writtenAt s c) found p b (λ j a o. unwritten j (none j a o)) _
-      (isSet-as _ (λ t′. (λ x. (subst T (sym (writes-rank (g .operations) q)) t, x), λ (_, x). x)) (g .in-keys .writers q (omega (arith, l, g .keys-are)))) z
-
-  pub all-earlier : k ≤ n → left ≡ 0 → IsSet found (FromWrite s c)
-  all-earlier l e =
-      isSet-as found (λ t. (λ (q, _, (r, x)). (q, r, x), λ (q, r, x). (q, omega (arith, g .fits .write-keys q r, g .keys-are), (r, x))))
-      (from-passed (writtenAt s c) found p l (λ j a b. unwritten j (left-none h e j a b)))

@@ -60,6 +60,14 @@ module _ {c : Commit} {ranks : Set} {values : List ℕ} (o : KeepsOperations c r
 
 module _ {s : Store} {u : View} {c : Commit} {versions views : List ℕ} {base : ℕ} {values : List ℕ} {ranks n : ℕ}
     (g : Given s u c versions views base values ranks n) where
+  -- the writer in the head of a version
+  pub writer-packed : (k : Key) {i h : ℕ} → i < count s k → h ≡ packed (version s k i .value) (version s k i .writer) → h / 2 ^ 32 % 64 ≡ version s k i .writer
+  writer-packed k {i} {h} l e =
+      let w : h / 2 ^ 32 ≡ version s k i .writer = rw e (high-half _ _ (g .in-versions .value-fits k i l)) in
+      let b : version s k i .writer < nextNumber s = g .sound .writers _ k i (l, refl) in
+      let m : nextNumber s ≤ 63 = g .room-left in
+      omega arith
+
   module _ (k : Key) (l : k < n) where
     -- the version that is seen is there
     pub seen-exists : newest u k < count s k
@@ -76,13 +84,6 @@ module _ {s : Store} {u : View} {c : Commit} {versions views : List ℕ} {base :
 
     pub value-seen : headSeen % 2 ^ 32 ≡ version s k (newest u k) .value
     value-seen = rw head-seen (low-half _ _ (g .in-versions .value-fits k (newest u k) seen-exists))
-
-    pub writer-seen : headSeen / 2 ^ 32 % 64 ≡ version s k (newest u k) .writer
-    writer-seen =
-        let h : headSeen / 2 ^ 32 ≡ version s k (newest u k) .writer = rw head-seen (high-half _ _ (g .in-versions .value-fits k (newest u k) seen-exists)) in
-        let b : version s k (newest u k) .writer < nextNumber s = g .sound .writers _ k (newest u k) (seen-exists, refl) in
-        let m : nextNumber s ≤ 63 = g .room-left in
-        omega arith
 
     -- ---- wrong reads
 

@@ -27,13 +27,6 @@ pub record Given (s : Store) (u : View) (c : Commit) (versions views : List ℕ)
   pub row : RowAt n views base u
   pub operations : KeepsOperations c ranks values
 
--- the same of the keys and the writes alone
-pub record Writing (s : Store) (c : Commit) (keys : List ℕ) (values : List ℕ) (ranks : Set) (n : ℕ) : Type 0 where
-  pub keys-are : s .keys ≡ n
-  pub fits : FitsCommit (s .keys) c
-  pub in-keys : KeepsKeys s keys
-  pub operations : KeepsOperations c ranks values
-
 -- a store with room for a version more of each key, as the arrays have it, and the writes of a commit
 pub record Appending (s : Store) (c : Commit) (versions keys values : List ℕ) (ranks : Set) (n : ℕ) : Type 0 where
   pub keys-are : s .keys ≡ n

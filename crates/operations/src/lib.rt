@@ -8,15 +8,15 @@ ghost use lib.Bits.{bitOr};
 ghost use lib.Dec.{T};
 ghost use lib.ListN.{length, getD};
 ghost use Rattle.sets.specs.Set.{has, highest};
-ghost use Rattle.store.specs.Store.{View, Store, version, nextNumber, Commit};
+ghost use Rattle.store.specs.Store.{View, Store, nextNumber, Commit};
 ghost use Rattle.store.specs.Refusal.{wrongAt, wrongRead};
-ghost use Rattle.store.specs.Update.{newest, update};
+ghost use Rattle.store.specs.Update.{update};
 ghost use Rattle.state.specs.Places.{headPlace, readersPlace};
 ghost use Rattle.growth.proofs.Links.{FromRead, FromWrite, ToLater};
 ghost use Rattle.growth.proofs.Ordered.{Ordered};
 ghost use Rattle.state.specs.Answers.{placeOf};
 ghost use Rattle.state.specs.Keeps.{IsSet, KeepsVersions, KeepsKeys};
-ghost use Rattle.operations.specs.Given.{Given, Writing, Appending};
+ghost use Rattle.operations.specs.Given.{Given, Appending};
 ghost use Rattle.operations.specs.Change.{freeBit, free, readerAdded, versionAdded, keyGrown, readsNoted, writesAppended};
 
 // The two accesses, by their place in a rank.
@@ -88,61 +88,12 @@ pub fn wrong_read(
     state::Found::Nothing
 }
 
-// The commits from which a commit reads, and those that wrote later versions of the keys that it reads.
-pub struct Reads {
-    pub from: u64,
-    pub over: u64,
-}
-
 // The writer of the version that a read of key k sees.
 fn writer_seen(versions: &[u64], views: &[u64], base: usize, k: usize) -> usize
     requires { ⌜ (length (now versions) ≡ 2048) × (length (now views) ≡ 256) × (base + k < 256) × (k < 16) ⌝ }
-    ensures { λ r. ⌜ (r < 64) × ((s : Store) (u : View) (c : Commit) (values : List ℕ) (ranks n : ℕ)
-        → Given s u c (now (versions .entry)) (now (views .entry)) base values ranks n → k < n → r ≡ version s k (newest u k) .writer) ⌝ }
+    ensures { λ r. ⌜ (r ≡ getD (now (versions .entry)) (headPlace k (highest (getD (now (views .entry)) (base + k) 0))) 0 / 2 ^ 32 % 64) × (r < 64) ⌝ }
 {
     writer_of(head_seen(versions, views, base, k))
-}
-
-// The writers of the versions that are read, and of later versions of the same keys. As writers rise with the version number, these are
-// the writers of the key that are above the writer of the version that is read.
-pub fn sources(
-    versions: &[u64],
-    keys: &[u64],
-    views: &[u64],
-    base: usize,
-    ranks: u64,
-    n: usize,
-) -> Reads
-    requires { ⌜ (length (now versions) ≡ 2048) × (length (now keys) ≡ 32) × (length (now views) ≡ 256) × (base + n ≤ 256) × (n ≤ 16) ⌝ }
-    ensures { λ r. ⌜ ((s : Store) (u : View) (c : Commit) (values : List ℕ)
-        → Given s u c (now (versions .entry)) (now (views .entry)) base values ranks n → KeepsKeys s (now (keys .entry)) → Ordered s
-        → IsSet (r .from) (FromRead s u c) × IsSet (r .over) (ToLater s u c)) ⌝ }
-{
-    let mut from: u64 = 0;
-    let mut over: u64 = 0;
-    let mut left = state::keys_with(ranks, READ, n);
-    while left != 0 {
-        let k = sets::lowest(left) / 2;
-        let writer = writer_seen(versions, views, base, k);
-        from = sets::union(from, sets::single(writer));
-        over = sets::union(over, sets::without(keys[16 + k], sets::up_to(writer)));
-        left = sets::rest(left);
-    }
-    Reads { from, over }
-}
-
-// The writers of the keys that are written.
-pub fn earlier(keys: &[u64], ranks: u64, n: usize) -> u64
-    requires { ⌜ (length (now keys) ≡ 32) × (n ≤ 16) ⌝ }
-    ensures { λ r. ⌜ ((s : Store) (c : Commit) (values : List ℕ) → Writing s c (now (keys .entry)) values ranks n → IsSet r (FromWrite s c)) ⌝ }
-{
-    let mut found: u64 = 0;
-    let mut left = state::keys_with(ranks, WRITE, n);
-    while left != 0 {
-        found = sets::union(found, keys[16 + sets::lowest(left) / 2]);
-        left = sets::rest(left);
-    }
-    found
 }
 
 // The reader `me` added to the version that a read of key k sees.
@@ -154,17 +105,42 @@ fn note_read(versions: &mut [u64], views: &[u64], base: usize, k: usize, me: usi
     versions[at] = sets::insert(versions[at], me);
 }
 
-// "Reads add the commit to that version's readers."
-pub fn note_reads(versions: &mut [u64], views: &[u64], base: usize, ranks: u64, n: usize, me: usize)
-    requires { ⌜ (length (now versions) ≡ 2048) × (length (now views) ≡ 256) × (base + n ≤ 256) × (n ≤ 16) × (me < 64) ⌝ }
-    ensures { λ _. ⌜ ((s : Store) (u : View) (c : Commit) (values : List ℕ)
+// The writers of the versions that a commit reads, and those of later versions of the same keys.
+pub struct Reads {
+    pub from: u64,
+    pub over: u64,
+}
+
+// "Reads add the commit to that version's readers." Answers whose versions are read, and who wrote later ones: as writers rise with the
+// version number, these are the writers of the key that are above the writer of the version that is read.
+pub fn note_reads(
+    versions: &mut [u64],
+    keys: &[u64],
+    views: &[u64],
+    base: usize,
+    ranks: u64,
+    n: usize,
+    me: usize,
+) -> Reads
+    requires { ⌜ (length (now versions) ≡ 2048) × (length (now keys) ≡ 32) × (length (now views) ≡ 256) × (base + n ≤ 256) × (n ≤ 16) × (me < 64) ⌝ }
+    ensures noted { λ _. ⌜ ((s : Store) (u : View) (c : Commit) (values : List ℕ)
         → Given s u c (now (versions .entry)) (now (views .entry)) base values ranks n → KeepsVersions (readsNoted s u c me) (now (versions .exit))) ⌝ }
+    ensures links { λ r. ⌜ ((s : Store) (u : View) (c : Commit) (values : List ℕ)
+        → Given s u c (now (versions .entry)) (now (views .entry)) base values ranks n → KeepsKeys s (now (keys .entry)) → Ordered s
+        → IsSet (r .from) (FromRead s u c) × IsSet (r .over) (ToLater s u c)) ⌝ }
 {
+    let mut from: u64 = 0;
+    let mut over: u64 = 0;
     let mut left = state::keys_with(ranks, READ, n);
     while left != 0 {
-        note_read(versions, views, base, sets::lowest(left) / 2, me);
+        let k = sets::lowest(left) / 2;
+        let writer = writer_seen(versions, views, base, k);
+        from = sets::union(from, sets::single(writer));
+        over = sets::union(over, sets::without(keys[16 + k], sets::up_to(writer)));
+        note_read(versions, views, base, k, me);
         left = sets::rest(left);
     }
+    Reads { from, over }
 }
 
 // The head of a version: its value, and its writer above it.
@@ -208,7 +184,7 @@ fn append_at(versions: &mut [u64], keys: &mut [u64], value: u64, k: usize, me: u
     grow_key(keys, k, bit, me);
 }
 
-// "Writes append (value, commit, no readers)."
+// "Writes append (value, commit, no readers)." Answers the writers of the keys before.
 pub fn append(
     versions: &mut [u64],
     keys: &mut [u64],
@@ -216,17 +192,27 @@ pub fn append(
     ranks: u64,
     n: usize,
     me: usize,
-)
+) -> u64
     requires { ⌜ (length (now versions) ≡ 2048) × (length (now keys) ≡ 32) × (length (now values) ≡ 32) × (n ≤ 16) × (me < 64) ⌝ }
-    ensures { λ _. ⌜ ((s : Store) (c : Commit) → Appending s c (now (versions .entry)) (now (keys .entry)) (now (values .entry)) ranks n
-        → KeepsVersions (writesAppended s c me) (now (versions .exit)) × KeepsKeys (writesAppended s c me) (now (keys .exit))) ⌝ }
+    ensures { λ r. ⌜ ((s : Store) (c : Commit) → Appending s c (now (versions .entry)) (now (keys .entry)) (now (values .entry)) ranks n
+        → KeepsVersions (writesAppended s c me) (now (versions .exit)) × KeepsKeys (writesAppended s c me) (now (keys .exit)) × IsSet r (FromWrite s c)) ⌝ }
 {
+    let mut earlier: u64 = 0;
     let mut left = state::keys_with(ranks, WRITE, n);
     while left != 0 {
         let k = sets::lowest(left) / 2;
+        earlier = sets::union(earlier, keys[16 + k]);
         append_at(versions, keys, values[2 * k + 1], k, me);
         left = sets::rest(left);
     }
+    earlier
+}
+
+// The commits from which links lead to the commit that is made, by WR and WW, and those to which RW leads from it.
+pub struct Linked {
+    pub from: u64,
+    pub earlier: u64,
+    pub over: u64,
 }
 
 // All operations of commit `me`, made on the view in the row at `base`: the reads first, which see what was there before.
@@ -239,13 +225,17 @@ pub fn perform(
     ranks: u64,
     n: usize,
     me: usize,
-)
+) -> Linked
     requires { ⌜ (length (now versions) ≡ 2048) × (length (now keys) ≡ 32) × (length (now views) ≡ 256) × (length (now values) ≡ 32)
         × (base + n ≤ 256) × (n ≤ 16) × (me < 64) ⌝ }
-    ensures { λ _. ⌜ ((s : Store) (u : View) (c : Commit)
+    ensures made { λ _. ⌜ ((s : Store) (u : View) (c : Commit)
         → Given s u c (now (versions .entry)) (now (views .entry)) base (now (values .entry)) ranks n → KeepsKeys s (now (keys .entry)) → me ≡ nextNumber s
         → KeepsVersions (update s u c) (now (versions .exit)) × KeepsKeys (update s u c) (now (keys .exit))) ⌝ }
+    ensures links { λ r. ⌜ ((s : Store) (u : View) (c : Commit)
+        → Given s u c (now (versions .entry)) (now (views .entry)) base (now (values .entry)) ranks n → KeepsKeys s (now (keys .entry)) → Ordered s
+        → IsSet (r .from) (FromRead s u c) × IsSet (r .earlier) (FromWrite s c) × IsSet (r .over) (ToLater s u c)) ⌝ }
 {
-    note_reads(versions, views, base, ranks, n, me);
-    append(versions, keys, values, ranks, n, me);
+    let reads = note_reads(versions, keys, views, base, ranks, n, me);
+    let earlier = append(versions, keys, values, ranks, n, me);
+    Linked { from: reads.from, earlier, over: reads.over }
 }

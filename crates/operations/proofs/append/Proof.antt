@@ -1,33 +1,48 @@
--- `operations::append` meets its contract. The keys passed have their new versions, and the others are as before. Assumes nothing.
+-- `operations::append` meets its contract. The keys passed have their new versions, the others are as before, and the set is that of the keys passed. Assumes nothing.
 use borrow.Author.Needs.{needs}
 use Prim.Native.Nat.{ℕ, _+_, _/_, _≤_}
 use mathlib.Core.Path.{_≡_, ap}
 use native.Mathlib.Omega.{arith}
 use lib.ListN.{length}
 use Rattle.store.specs.Store.{Store, Commit}
+use Rattle.state.specs.Keeps.{IsSet}
 use Rattle.state.specs.Accesses.{Left}
 use Rattle.state.proofs.Accesses.{left-rest, turn-below}
+use Rattle.state.proofs.Below.{From, from-none}
 use Rattle.operations.specs.Given.{Appending}
-use Rattle.operations.proofs.Appended.{WritesPassed, no-writes, write-appended, writes-appended}
+use Rattle.operations.specs.PerKey.{writtenAt}
+use Rattle.operations.proofs.Appended.{WritesPassed, no-writes, earlier-turn, write-appended, all-earlier, writes-appended}
 use Rattle.operations.proofs.append.Statement.{statement}
 use Rattle.operations.proofs.append.Tie as tie
 
 abbrev Inv-loop : tie.InvT-loop
-Inv-loop versions₀ keys₀ values ranks n me left₀ versions keys left =
+Inv-loop versions₀ keys₀ values ranks n me earlier₀ left₀ versions keys earlier left =
     (k : ℕ) × (k ≤ n) × Left ranks 1 n k left × (length versions ≡ 2048) × (length keys ≡ 32)
-    × ((s : Store) (c : Commit) → Appending s c versions₀ keys₀ values ranks n → WritesPassed s c me n k versions keys)
+    × ((s : Store) (c : Commit) → Appending s c versions₀ keys₀ values ranks n → WritesPassed s c me n k versions keys × IsSet earlier (From (writtenAt s c) k))
 
 abbrev μ-loop : tie.MeasureT-loop
-μ-loop versions₀ keys₀ values ranks n me left₀ versions keys left = left
+μ-loop versions₀ keys₀ values ranks n me earlier₀ left₀ versions keys earlier left = left
 
 keys-with-requires : tie.Need-keys-with-requires Inv-loop μ-loop
 keys-with-requires c κs = search needs
 
 loop-holds : tie.Need-loop-holds Inv-loop μ-loop
-loop-holds c = (0, omega arith, c .keys-with .ensures, omega arith, omega arith, λ s d g. no-writes g _)
+loop-holds c = (0, omega arith, c .keys-with .ensures, omega arith, omega arith, λ s d g. (no-writes g _, from-none (writtenAt s d)))
 
 lowest-requires : tie.Need-lowest-requires Inv-loop μ-loop
 lowest-requires c κs = search needs
+
+add-union : tie.Need-add-union Inv-loop μ-loop
+add-union c = search needs
+
+mul-union : tie.Need-mul-union Inv-loop μ-loop
+mul-union c = search needs
+
+slice-read-union : tie.Need-slice-read-union Inv-loop μ-loop
+slice-read-union c = let l = turn-below (c .before .before .before .loop .inv .2) (omega arith) (c .before .lowest .ensures .0) in omega (arith, l)
+
+union-requires : tie.Need-union-requires Inv-loop μ-loop
+union-requires c κs = search needs
 
 mul-append-at : tie.Need-mul-append-at Inv-loop μ-loop
 mul-append-at c = search needs
@@ -39,10 +54,10 @@ mul-append-at-2 : tie.Need-mul-append-at-2 Inv-loop μ-loop
 mul-append-at-2 c = search needs
 
 shared-slice-read-append-at : tie.Need-shared-slice-read-append-at Inv-loop μ-loop
-shared-slice-read-append-at c = let l = turn-below (c .before .before .before .before .before .loop .inv .2) (omega arith) (c .before .before .before .lowest .ensures .0) in omega (arith, l)
+shared-slice-read-append-at c = let l = turn-below (c .before .before .before .before .before .before .before .loop .inv .2) (omega arith) (c .before .before .before .before .before .lowest .ensures .0) in omega (arith, l)
 
 append-at-requires : tie.Need-append-at-requires Inv-loop μ-loop
-append-at-requires c κs = let l = turn-below (c .before .before .before .before .before .loop .inv .2) (omega arith) (c .before .before .before .lowest .ensures .0) in (search needs, search needs, omega (arith, l), search needs)
+append-at-requires c κs = let l = turn-below (c .before .before .before .before .before .before .before .loop .inv .2) (omega arith) (c .before .before .before .before .before .lowest .ensures .0) in (search needs, search needs, omega (arith, l), search needs)
 
 rest-requires : tie.Need-rest-requires Inv-loop μ-loop
 rest-requires c κs = search needs
@@ -52,10 +67,19 @@ loop-less c = search needs
 
 loop-again : tie.Need-loop-again Inv-loop μ-loop
 loop-again c =
-    let (k, small, h, room, room′, p) = c .before .before .before .before .before .before .before .before .before .before .before .loop .inv in
-    let q = ap (λ (x : ℕ). x / 2) (c .before .before .before .before .before .before .before .before .before .lowest .ensures .0) in
-    let l = turn-below h (omega arith) (c .before .before .before .before .before .before .before .before .before .lowest .ensures .0) in
-    (c .before .before .before .before .before .before .before .before .before .lowest .result / 2 + 1, omega (arith, l), left-rest h (omega arith) q (c .rest .ensures .0), omega arith, omega arith, λ s d g. write-appended g _ h (omega arith) (omega arith) q _ _ (p s d g) (c .before .before .before .before .before .append-at .ensures .0) (c .before .before .before .before .before .append-at .ensures .1))
+    let (k, small, h, room, room′, p) = c .before .before .before .before .before .before .before .before .before .before .before .before .before .loop .inv in
+    let q = ap (λ (x : ℕ). x / 2) (c .before .before .before .before .before .before .before .before .before .before .before .lowest .ensures .0) in
+    let l = turn-below h (omega arith) (c .before .before .before .before .before .before .before .before .before .before .before .lowest .ensures .0) in (
+      c .before .before .before .before .before .before .before .before .before .before .before .lowest .result / 2 + 1,
+      omega (arith, l),
+      left-rest h (omega arith) q (c .rest .ensures .0),
+      omega arith,
+      omega arith,
+      λ s d g. (
+        write-appended g _ h (omega arith) (omega arith) q _ _ (p s d g .0) (c .before .before .before .before .before .append-at .ensures .0) (c .before .before .before .before .before .append-at .ensures .1),
+        earlier-turn g _ h (omega arith) (omega arith) q _ _ (p s d g .0) _ (p s d g .1) (c .before .before .before .before .before .before .before .before .before .union .ensures),
+      ),
+    )
 
 same-length : tie.Need-same-length Inv-loop μ-loop
 same-length c = search needs
@@ -66,7 +90,8 @@ same-length-2 c = search needs
 returns : tie.Need-returns Inv-loop μ-loop
 returns c =
     let (k, small, h, room, room′, p) = c .before .loop .inv in
-    λ s d g. writes-appended g _ h _ _ small (omega arith) (omega arith) (omega arith) (p s d g)
+    λ s d g. let x = writes-appended g _ h _ _ small (omega arith) (omega arith) (omega arith) (p s d g .0) in
+        (x .0, x .1, all-earlier g 0 h small (omega arith) _ (p s d g .1))
 
 pub append-spec : {M : Type 1} → statement M
 append-spec =
@@ -77,6 +102,10 @@ append-spec =
     keys-with-requires
     loop-holds
     lowest-requires
+    add-union
+    mul-union
+    slice-read-union
+    union-requires
     mul-append-at
     add-append-at
     mul-append-at-2

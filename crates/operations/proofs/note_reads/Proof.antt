@@ -1,37 +1,71 @@
--- `operations::note_reads` meets its contract. The keys passed have their reads noted, and the others are as before. Assumes nothing.
+-- `operations::note_reads` meets its contract. The keys passed have their reads noted, the others are as before, and the sets are those of the keys passed. Assumes nothing.
 use borrow.Author.Needs.{needs}
 use Prim.Native.Nat.{ℕ, _+_, _/_, _≤_}
-use mathlib.Core.Path.{_≡_, ap}
+use mathlib.Core.Path.{_≡_, ap, _∙_}
 use mathlib.Core.List.{List}
 use native.Mathlib.Omega.{arith}
 use lib.ListN.{length}
 use Rattle.store.specs.Store.{View, Store, Commit}
+use Rattle.growth.proofs.Ordered.{Ordered}
+use Rattle.state.specs.Keeps.{IsSet, KeepsKeys}
 use Rattle.state.specs.Accesses.{Left}
-use Rattle.state.proofs.Accesses.{left-rest, turn-below}
+use Rattle.state.proofs.Accesses.{next-key, left-rest, turn-below}
+use Rattle.state.proofs.Below.{From, from-none}
 use Rattle.operations.specs.Given.{Given}
-use Rattle.operations.proofs.Noted.{ReadsPassed, no-reads, read-noted, reads-noted}
+use Rattle.operations.specs.PerKey.{readAt, laterAt}
+use Rattle.operations.proofs.PerKey.{source-read, later-read, reads-turn, all-sources, all-later}
+use Rattle.operations.proofs.Noted.{ReadsPassed, no-reads, read-noted, writer-left, reads-noted}
 use Rattle.operations.proofs.note_reads.Statement.{statement}
 use Rattle.operations.proofs.note_reads.Tie as tie
 
 abbrev Inv-loop : tie.InvT-loop
-Inv-loop versions₀ views base ranks n me left₀ versions left =
+Inv-loop versions₀ keys views base ranks n me from₀ over₀ left₀ versions from over left =
     (k : ℕ) × (k ≤ n) × Left ranks 0 n k left × (length versions ≡ 2048)
-    × ((s : Store) (u : View) (c : Commit) (values : List ℕ) → Given s u c versions₀ views base values ranks n → ReadsPassed s u c me n k versions)
+    × ((s : Store) (u : View) (c : Commit) (values : List ℕ) → Given s u c versions₀ views base values ranks n
+        → ReadsPassed s u c me n k versions
+            × (KeepsKeys s keys → Ordered s → IsSet from (From (readAt s u c) k) × IsSet over (From (laterAt s u c) k)))
 
 abbrev μ-loop : tie.MeasureT-loop
-μ-loop versions₀ views base ranks n me left₀ versions left = left
+μ-loop versions₀ keys views base ranks n me from₀ over₀ left₀ versions from over left = left
 
 keys-with-requires : tie.Need-keys-with-requires Inv-loop μ-loop
 keys-with-requires c κs = search needs
 
 loop-holds : tie.Need-loop-holds Inv-loop μ-loop
-loop-holds c = (0, omega arith, c .keys-with .ensures, omega arith, λ s u d values g. no-reads g _)
+loop-holds c = (0, omega arith, c .keys-with .ensures, omega arith, λ s u d values g. (no-reads g _, λ kept o. (from-none (readAt s u d), from-none (laterAt s u d))))
 
 lowest-requires : tie.Need-lowest-requires Inv-loop μ-loop
 lowest-requires c κs = search needs
 
+writer-seen-requires : tie.Need-writer-seen-requires Inv-loop μ-loop
+writer-seen-requires c κs = let l = turn-below (c .before .before .before .loop .inv .2) (omega arith) (c .before .lowest .ensures .0) in (search needs, search needs, omega (arith, l), omega (arith, l))
+
+single-requires : tie.Need-single-requires Inv-loop μ-loop
+single-requires c κs = search needs
+
+union-requires : tie.Need-union-requires Inv-loop μ-loop
+union-requires c κs = search needs
+
+add-without : tie.Need-add-without Inv-loop μ-loop
+add-without c = search needs
+
+mul-without : tie.Need-mul-without Inv-loop μ-loop
+mul-without c = search needs
+
+shared-slice-read-without : tie.Need-shared-slice-read-without Inv-loop μ-loop
+shared-slice-read-without c = let l = turn-below (c .before .before .before .before .before .before .before .loop .inv .2) (omega arith) (c .before .before .before .before .before .lowest .ensures .0) in omega (arith, l)
+
+up-to-requires : tie.Need-up-to-requires Inv-loop μ-loop
+up-to-requires c κs = search needs
+
+without-requires : tie.Need-without-requires Inv-loop μ-loop
+without-requires c κs = search needs
+
+union-requires-2 : tie.Need-union-requires-2 Inv-loop μ-loop
+union-requires-2 c κs = search needs
+
 note-read-requires : tie.Need-note-read-requires Inv-loop μ-loop
-note-read-requires c κs = let l = turn-below (c .before .before .before .loop .inv .2) (omega arith) (c .lowest .ensures .0) in (search needs, search needs, omega (arith, l), omega (arith, l), search needs)
+note-read-requires c κs = let l = turn-below (c .before .before .before .before .before .before .before .before .before .before .before .loop .inv .2) (omega arith) (c .before .before .before .before .before .before .before .before .before .lowest .ensures .0) in (search needs, search needs, omega (arith, l), omega (arith, l), search needs)
 
 rest-requires : tie.Need-rest-requires Inv-loop μ-loop
 rest-requires c κs = search needs
@@ -41,18 +75,33 @@ loop-less c = search needs
 
 loop-again : tie.Need-loop-again Inv-loop μ-loop
 loop-again c =
-    let (k, small, h, room, p) = c .before .before .before .before .before .before .before .loop .inv in
-    let q = ap (λ (x : ℕ). x / 2) (c .before .before .before .before .lowest .ensures .0) in
-    let l = turn-below h (omega arith) (c .before .before .before .before .lowest .ensures .0) in
-    (c .before .before .before .before .lowest .result / 2 + 1, omega (arith, l), left-rest h (omega arith) q (c .rest .ensures .0), omega arith, λ s u d values g. read-noted g _ h (omega arith) (omega arith) q _ (c .before .before .before .note-read .ensures) (p s u d values g))
+    let (k, small, h, room, p) = c .before .before .before .before .before .before .before .before .before .before .before .before .before .before .before .loop .inv in
+    let q = ap (λ (x : ℕ). x / 2) (c .before .before .before .before .before .before .before .before .before .before .before .before .before .lowest .ensures .0) in
+    let (_, l, r, _) = next-key h (omega arith) q in (
+      c .before .before .before .before .before .before .before .before .before .before .before .before .before .lowest .result / 2 + 1,
+      omega (arith, l),
+      left-rest h (omega arith) q (c .rest .ensures .0),
+      omega arith,
+      λ s u d values g. (
+        read-noted g _ h (omega arith) (omega arith) q _ (c .before .before .before .note-read .ensures) (p s u d values g .0),
+        λ kept o.
+            let w = c .before .before .before .before .before .before .before .before .before .before .before .writer-seen .ensures .0 ∙ writer-left g _ h (omega arith) q _ (p s u d values g .0) in
+            let x = p s u d values g .1 kept o in (
+              reads-turn g h (readAt s u d) (λ q t x. x .0) _ (x .0) (omega arith) q _ (c .before .before .before .before .before .before .before .before .before .union .ensures) (source-read g _ l r w (c .before .before .before .before .before .before .before .before .before .before .single .ensures)),
+              reads-turn g h (laterAt s u d) (λ q t x. x .0) _ (x .1) (omega arith) q _ (c .before .before .before .before .before .union2 .ensures) (later-read g _ l r w o kept (c .before .before .before .before .before .before .before .up-to .ensures) (c .before .before .before .before .before .before .without .ensures)),
+            ),
+      ),
+    )
 
 same-length : tie.Need-same-length Inv-loop μ-loop
 same-length c = search needs
 
 returns : tie.Need-returns Inv-loop μ-loop
 returns c =
-    let (k, small, h, room, p) = c .before .loop .inv in
-    λ s u d values g. reads-noted g _ h _ small (omega arith) (omega arith) (p s u d values g)
+    let (k, small, h, room, p) = c .before .loop .inv in (
+      λ s u d values g. reads-noted g _ h _ small (omega arith) (omega arith) (p s u d values g .0),
+      λ s u d values g kept o. let x = p s u d values g .1 kept o in (all-sources g h small (omega arith) _ (x .0), all-later g h small (omega arith) _ (x .1)),
+    )
 
 pub note-reads-spec : {M : Type 1} → statement M
 note-reads-spec =
@@ -63,6 +112,15 @@ note-reads-spec =
     keys-with-requires
     loop-holds
     lowest-requires
+    writer-seen-requires
+    single-requires
+    union-requires
+    add-without
+    mul-without
+    shared-slice-read-without
+    up-to-requires
+    without-requires
+    union-requires-2
     note-read-requires
     rest-requires
     loop-less
