@@ -12,124 +12,91 @@ use Rattle.growth.proofs.Made.{Operates}
 use Rattle.sessions.proofs.Settled.{idle-sessions, sessions-settled, commits-settled, commits-idle}
 use Rattle.sessions.proofs.settle.Statement.{statement}
 use Rattle.sessions.proofs.settle.Tie as tie
-use Rattle.sessions.proofs.settle.Reads as reads
-use Rattle.sessions.proofs.settle.Lts as lts
-use Rattle.sets.proofs.insert.Reads as insert-reads
-use Rattle.sets.proofs.union.Reads as union-reads
 
--- src/lib.rt:33:37
 mul-commits : tie.Need-mul-commits
 mul-commits c = search needs
 
--- src/lib.rt:33:19
 add-commits : tie.Need-add-commits
 add-commits c = search needs
 
--- src/lib.rt:33:5
 mul-commits-2 : tie.Need-mul-commits-2
 mul-commits-2 c = search needs
 
--- src/lib.rt:33:5
 slice-write-commits : tie.Need-slice-write-commits
 slice-write-commits c = search needs
 
--- src/lib.rt:35:22
 mul-before : tie.Need-mul-before
 mul-before c = search needs
 
--- src/lib.rt:35:22
 slice-read-before : tie.Need-slice-read-before
 slice-read-before c = search needs
 
--- src/lib.rt:36:42
 add-union : tie.Need-add-union
 add-union c = search needs
 
--- src/lib.rt:36:33
 mul-union : tie.Need-mul-union
 mul-union c = search needs
 
--- src/lib.rt:36:33
 slice-read-union : tie.Need-slice-read-union
 slice-read-union c = search needs
 
--- src/lib.rt:36:13
 union-requires : tie.Need-union-requires
 union-requires c κs = search needs
 
--- src/lib.rt:37:28
 insert-requires : tie.Need-insert-requires
 insert-requires c κs = search needs
 
--- src/lib.rt:37:9
 mul-sessions : tie.Need-mul-sessions
 mul-sessions c = search needs
 
--- src/lib.rt:37:9
 slice-write-sessions : tie.Need-slice-write-sessions
 slice-write-sessions c = search needs
 
--- src/lib.rt:38:18
 add-sessions : tie.Need-add-sessions
 add-sessions c = search needs
 
--- src/lib.rt:38:9
 mul-sessions-2 : tie.Need-mul-sessions-2
 mul-sessions-2 c = search needs
 
--- src/lib.rt:38:9
 slice-write-sessions-2 : tie.Need-slice-write-sessions-2
 slice-write-sessions-2 c = simp length-set (omega (arith, c .before .before .before .before .before .before .before .pre))
 
--- src/lib.rt:39:33
 add-sessions-2 : tie.Need-add-sessions-2
 add-sessions-2 c = search needs
 
--- src/lib.rt:39:18
 add-sessions-3 : tie.Need-add-sessions-3
 add-sessions-3 c = search needs
 
--- src/lib.rt:39:9
 mul-sessions-3 : tie.Need-mul-sessions-3
 mul-sessions-3 c = search needs
 
--- src/lib.rt:39:9
 slice-write-sessions-3 : tie.Need-slice-write-sessions-3
 slice-write-sessions-3 c = simp length-set (omega (arith, c .before .before .before .before .before .before .before .pre))
 
--- src/lib.rt:40:17
 add-commits-2 : tie.Need-add-commits-2
 add-commits-2 c = search needs
 
--- src/lib.rt:40:9
 mul-commits-3 : tie.Need-mul-commits-3
 mul-commits-3 c = search needs
 
--- src/lib.rt:40:9
 slice-write-commits-2 : tie.Need-slice-write-commits-2
 slice-write-commits-2 c = simp length-set (omega (arith, c .before .before .before .before .before .before .before .pre))
 
--- src/lib.rt:41:17
 add-commits-3 : tie.Need-add-commits-3
 add-commits-3 c = search needs
 
--- src/lib.rt:41:9
 mul-commits-4 : tie.Need-mul-commits-4
 mul-commits-4 c = search needs
 
--- src/lib.rt:41:9
 slice-write-commits-3 : tie.Need-slice-write-commits-3
 slice-write-commits-3 c = simp length-set (omega (arith, c .before .before .before .before .before .before .before .pre))
 
--- src/lib.rt:16:1
 same-length : tie.Need-same-length
 same-length c = search needs
 
--- src/lib.rt:16:1
 same-length-2 : tie.Need-same-length-2
 same-length-2 c = search needs
 
--- src/lib.rt:16:1
 returns : tie.Need-returns
 returns c =
     let b = c .before .before .before .before .before .before .before in
@@ -145,11 +112,9 @@ returns c =
           (b .args .sessions .now) (b .args .commits .now) h (c .insert .result) (c .before .union .result) (c .insert .ensures) (c .before .union .ensures)
           (op .0 (c .before .before .before .before .if1 .taken)) )
 
--- src/lib.rt:16:1
 same-length-3 : tie.Need-same-length-3
 same-length-3 c = search needs
 
--- src/lib.rt:16:1
 returns-2 : tie.Need-returns-2
 returns-2 c =
     let b = c .before .before .before in

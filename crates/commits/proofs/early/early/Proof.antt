@@ -1,3 +1,4 @@
+-- `commits::early::early` meets its contract. Assumes nothing.
 use mathlib.Core.Path.{sym, ap, _∙_}
 use native.Mathlib.Omega.{arith}
 use Rattle.state.specs.Answers.{placeOf}
@@ -5,46 +6,34 @@ use Rattle.commits.proofs.Cases.{early-old, early-wrong, early-none, ba
 use borrow.Author.Needs.{needs}
 use Rattle.commits.proofs.early.early.Statement.{statement}
 use Rattle.commits.proofs.early.early.Tie as tie
-use Rattle.commits.proofs.early.early.Reads as reads
-use Rattle.commits.proofs.early.early.Lts as lts
-use Rattle.operations.proofs.wrong_read.Reads as wrong-read-reads
 
--- src/early.rt:22:36
 add-if1 : tie.Need-add-if1
 add-if1 c = search needs
 
--- src/early.rt:22:27
 mul-if1 : tie.Need-mul-if1
 mul-if1 c = search needs
 
--- src/early.rt:22:27
 shared-slice-read-if1 : tie.Need-shared-slice-read-if1
 shared-slice-read-if1 c = search needs
 
--- src/early.rt:23:9
 returns : tie.Need-returns
 returns c =
     let b = c .before .before .before .before .before .before in
     let a = b .args in
     λ s u k i g. early-old i s u k (bar-is s u k (a .sessions .now) (a .versions .now) (a .views .now) (a .values .now) (a .client) (a .session) (a .ranks) (a .n) g (b .pre .1) .1 (omega arith))
 
--- src/early.rt:25:57
 mul-wrong-read : tie.Need-mul-wrong-read
 mul-wrong-read c = search needs
 
--- src/early.rt:25:9
 wrong-read-requires : tie.Need-wrong-read-requires
 wrong-read-requires c κs = search needs
 
--- src/early.rt:27:19
 enum-known-wrong : tie.Need-enum-known-wrong
 enum-known-wrong c = search needs
 
--- src/early.rt:28:27
 enum-told : tie.Need-enum-told
 enum-told c = search needs
 
--- src/early.rt:12:1
 returns-2 : tie.Need-returns-2
 returns-2 c =
     let b = c .before .before .before .before .before .before .before .before .before .before in
@@ -53,7 +42,6 @@ returns-2 c =
         early-wrong i s u k (λ t. let l = bar-is s u k (a .sessions .now) (a .versions .now) (a .views .now) (a .values .now) (a .client) (a .session) (a .ranks) (a .n) g (b .pre .1) .0 t in omega arith)
           _ (sym (c .before .before .before .wrong-read .ensures s u k (g .given)) ∙ ap placeOf (c .before .wrong .given .1))
 
--- src/early.rt:12:1
 returns-3 : tie.Need-returns-3
 returns-3 c =
     let b = c .before .before .before .before .before .before .before .before .before in

@@ -1,3 +1,4 @@
+-- `commits::record::begin` meets its contract. Assumes nothing.
 use Prim.Native.Nat.{_*_}
 use mathlib.Core.Path.{_≡_, refl}
 use native.Mathlib.Omega.{arith}
@@ -9,33 +10,22 @@ use Rattle.commits.proofs.Begun.{masks-read, operations-read, early-giv
 use borrow.Author.Needs.{needs}
 use Rattle.commits.proofs.record.begin.Statement.{statement}
 use Rattle.commits.proofs.record.begin.Tie as tie
-use Rattle.commits.proofs.record.begin.Reads as reads
-use Rattle.commits.proofs.record.begin.Lts as lts
-use Rattle.commits.proofs.early.early.Reads as early-reads
-use Rattle.trace.proofs.contents.masks_into.Reads as masks-into-reads
-use Rattle.trace.proofs.contents.sort_operations.Reads as sort-operations-reads
 
--- src/record.rt:57:5
 masks-into-requires : tie.Need-masks-into-requires
 masks-into-requires c κs = search needs
 
--- src/record.rt:58:9
 sort-operations-requires : tie.Need-sort-operations-requires
 sort-operations-requires c κs = search needs
 
--- src/record.rt:59:9
 early-requires : tie.Need-early-requires
 early-requires c κs = search needs
 
--- src/record.rt:40:1
 same-length : tie.Need-same-length
 same-length c = search needs
 
--- src/record.rt:40:1
 same-length-2 : tie.Need-same-length-2
 same-length-2 c = search needs
 
--- src/record.rt:40:1
 returns : tie.Need-returns
 returns c =
     let b = c .before .before .before .before .before .before .before .before .before .before .before .before .before .before .before .before in

@@ -1,3 +1,4 @@
+-- `commits::record::commit_to` meets its contract. Assumes nothing.
 use mathlib.Core.Path.{refl, sym, ap, _∙_}
 use native.Mathlib.Omega.{arith}
 use Rattle.shifts.specs.Outcomes.{outcomeOf}
@@ -6,40 +7,28 @@ use Rattle.commits.proofs.Turns.{refused-early, taken-early, answered-l
 use borrow.Author.Needs.{needs}
 use Rattle.commits.proofs.record.commit_to.Statement.{statement}
 use Rattle.commits.proofs.record.commit_to.Tie as tie
-use Rattle.commits.proofs.record.commit_to.Reads as reads
-use Rattle.commits.proofs.record.commit_to.Lts as lts
-use Rattle.commits.proofs.record.begin.Reads as begin-reads
-use Rattle.commits.proofs.record.complete.Reads as complete-reads
 
--- src/record.rt:113:9
 begin-requires : tie.Need-begin-requires
 begin-requires c κs = search needs
 
--- src/record.rt:115:31
 enum-known-first : tie.Need-enum-known-first
 enum-known-first c = search needs
 
--- src/record.rt:116:9
 same-length : tie.Need-same-length
 same-length c = search needs
 
--- src/record.rt:116:9
 same-length-2 : tie.Need-same-length-2
 same-length-2 c = search needs
 
--- src/record.rt:116:9
 same-length-3 : tie.Need-same-length-3
 same-length-3 c = search needs
 
--- src/record.rt:116:9
 same-length-4 : tie.Need-same-length-4
 same-length-4 c = search needs
 
--- src/record.rt:116:9
 same-length-5 : tie.Need-same-length-5
 same-length-5 c = search needs
 
--- src/record.rt:116:9
 returns : tie.Need-returns
 returns c =
     let a = c .before .before .before .before .before .before .before .before .before .before .before .before .before .before .before .before .before .before .before .before .before .before .before .before .args in
@@ -53,53 +42,41 @@ returns c =
 enum-told : tie.Need-enum-told
 enum-told c = search needs
 
--- src/record.rt:118:5
 complete-requires : tie.Need-complete-requires
 complete-requires c κs =
     let p = c .before .before .before .before .before .before .before .before .before .before .before .before .before .before .before .before .before .before .before .before .before .before .before .before .before .before .before .before .before .before .before .before .before .pre in
     ((p .0 .0, p .0 .1, p .0 .3, p .0 .2, omega arith, omega arith, p .1 .0 .2), p .1 .1)
 
--- src/record.rt:94:1
 same-length-6 : tie.Need-same-length-6
 same-length-6 c = search needs
 
--- src/record.rt:94:1
 same-length-7 : tie.Need-same-length-7
 same-length-7 c = search needs
 
--- src/record.rt:94:1
 same-length-8 : tie.Need-same-length-8
 same-length-8 c = search needs
 
--- src/record.rt:94:1
 same-length-9 : tie.Need-same-length-9
 same-length-9 c = search needs
 
--- src/record.rt:94:1
 same-length-10 : tie.Need-same-length-10
 same-length-10 c = search needs
 
--- src/record.rt:94:1
 same-length-11 : tie.Need-same-length-11
 same-length-11 c = search needs
 
--- src/record.rt:94:1
 same-length-12 : tie.Need-same-length-12
 same-length-12 c = search needs
 
--- src/record.rt:94:1
 same-length-13 : tie.Need-same-length-13
 same-length-13 c = search needs
 
--- src/record.rt:94:1
 same-length-14 : tie.Need-same-length-14
 same-length-14 c = search needs
 
--- src/record.rt:94:1
 same-length-15 : tie.Need-same-length-15
 same-length-15 c = search needs
 
--- src/record.rt:94:1
 returns-2 : tie.Need-returns-2
 returns-2 c =
     let a = c .before .before .before .before .before .before .before .before .before .before .before .before .before .before .before .before .before .before .before .before .before .before .before .before .before .before .before .before .before .before .before .before .before .before .before .before .before .before .before .before .before .before .before .before .before .before .before .before .before .before .args in

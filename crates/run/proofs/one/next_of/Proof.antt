@@ -4,23 +4,17 @@ use Rattle.run.specs.OneRecord.{nextOf}
 use borrow.Author.Needs.{needs}
 use Rattle.run.proofs.one.next_of.Statement.{statement}
 use Rattle.run.proofs.one.next_of.Tie as tie
-use Rattle.run.proofs.one.next_of.Reads as reads
-use Rattle.run.proofs.one.next_of.Lts as lts
 
--- src/one.rt:26:27
 enum-told : tie.Need-enum-told
 enum-told c = search needs
 
--- src/one.rt:27:28
 enum-known-o : tie.Need-enum-known-o
 enum-known-o c = search needs
 
--- src/one.rt:22:1
 returns : tie.Need-returns
 unfolding nextOf
 returns c = sym (ap (λ o. nextOf o (c .before .before .args .at) (c .before .before .args .made)) (c .enum-told .given .1))
 
--- src/one.rt:22:1
 returns-2 : tie.Need-returns-2
 unfolding nextOf
 returns-2 c = sym (ap (λ o. nextOf o (c .before .before .before .args .at) (c .before .before .before .args .made)) (c .before .o .given .1))

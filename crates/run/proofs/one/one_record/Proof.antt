@@ -6,41 +6,29 @@ use Rattle.run.proofs.OneRecord.{goes-within, not-read, shift-one, no-r
 use borrow.Author.Needs.{needs}
 use Rattle.run.proofs.one.one_record.Statement.{statement}
 use Rattle.run.proofs.one.one_record.Tie as tie
-use Rattle.run.proofs.one.one_record.Reads as reads
-use Rattle.run.proofs.one.one_record.Lts as lts
-use Rattle.run.proofs.one.next_of.Reads as next-of-reads
-use Rattle.commits.proofs.record.commit_to.Reads as commit-to-reads
-use Rattle.shifts.proofs.shift.shift_to.Reads as shift-to-reads
 
--- src/one.rt:45:25
 enum-known-r : tie.Need-enum-known-r
 enum-known-r c = search needs
 
--- src/one.rt:46:17
 shift-to-requires : tie.Need-shift-to-requires
 shift-to-requires c κs =
     let (below, masks, next) = subst (Readable _ _) (c .before .before .before .before .before .before .r .given .1) (c .before .before .before .before .before .before .before .before .before .before .before .before .before .before .before .before .before .before .before .pre .0 .2) in
     let p = c .before .before .before .before .before .before .before .before .before .before .before .before .before .before .before .before .before .before .before .pre in
     ((p .0 .0, p .0 .1, below, masks), (p .1 .0, p .1 .1, p .1 .2, p .1 .3, p .0 .5))
 
--- src/one.rt:47:13
 next-of-requires : tie.Need-next-of-requires
 next-of-requires c κs = search needs
 
--- src/one.rt:49:26
 enum-known-r-2 : tie.Need-enum-known-r-2
 enum-known-r-2 c = search needs
 
--- src/one.rt:51:17
 returns : tie.Need-returns
 returns c =
     (tt, λ g fs clients e next f s. no-room _ _ _ _ _ (c .before .before .r2 .given .1) (omega arith) f)
 
--- src/one.rt:54:132
 add-commit-to : tie.Need-add-commit-to
 add-commit-to c = search needs
 
--- src/one.rt:54:17
 commit-to-requires : tie.Need-commit-to-requires
 commit-to-requires c κs =
     let (below, masks, next, operations, fit) = subst (Readable _ _) (c .before .before .before .before .before .before .before .before .before .before .before .before .r2 .given .1) (c .before .before .before .before .before .before .before .before .before .before .before .before .before .before .before .before .before .before .before .before .before .before .before .before .before .pre .0 .2) in
@@ -48,39 +36,30 @@ commit-to-requires c κs =
     let room = c .before .before .before .before .before .before .before .before .before .before .if1 .left in
     ((p .0 .0, p .0 .1, omega arith, below, masks, operations, fit), ((p .0 .4, p .0 .5, p .0 .3), p .1))
 
--- src/one.rt:55:30
 add-next-of : tie.Need-add-next-of
 add-next-of c = search needs
 
--- src/one.rt:55:13
 next-of-requires-2 : tie.Need-next-of-requires-2
 next-of-requires-2 c κs = search needs
 
--- src/one.rt:57:59
 enum-told : tie.Need-enum-told
 enum-told c = search needs
 
--- src/one.rt:32:1
 same-length : tie.Need-same-length
 same-length c = search needs
 
--- src/one.rt:32:1
 same-length-2 : tie.Need-same-length-2
 same-length-2 c = search needs
 
--- src/one.rt:32:1
 same-length-3 : tie.Need-same-length-3
 same-length-3 c = search needs
 
--- src/one.rt:32:1
 same-length-4 : tie.Need-same-length-4
 same-length-4 c = search needs
 
--- src/one.rt:32:1
 same-length-5 : tie.Need-same-length-5
 same-length-5 c = search needs
 
--- src/one.rt:32:1
 returns-2 : tie.Need-returns-2
 returns-2 c =
     let is = c .before .before .before .before .before .before .before .before .before .before .before .before .before .before .r .given .1 in
@@ -90,47 +69,36 @@ returns-2 c =
       λ g fs clients e next f s. shift-one _ _ _ _ _ _ is _ _ (done .0) (done .1) g fs s clients e next f (c .next-of .ensures),
     )
 
--- src/one.rt:32:1
 same-length-6 : tie.Need-same-length-6
 same-length-6 c = search needs
 
--- src/one.rt:32:1
 same-length-7 : tie.Need-same-length-7
 same-length-7 c = search needs
 
--- src/one.rt:32:1
 same-length-8 : tie.Need-same-length-8
 same-length-8 c = search needs
 
--- src/one.rt:32:1
 same-length-9 : tie.Need-same-length-9
 same-length-9 c = search needs
 
--- src/one.rt:32:1
 same-length-10 : tie.Need-same-length-10
 same-length-10 c = search needs
 
--- src/one.rt:32:1
 same-length-11 : tie.Need-same-length-11
 same-length-11 c = search needs
 
--- src/one.rt:32:1
 same-length-12 : tie.Need-same-length-12
 same-length-12 c = search needs
 
--- src/one.rt:32:1
 same-length-13 : tie.Need-same-length-13
 same-length-13 c = search needs
 
--- src/one.rt:32:1
 same-length-14 : tie.Need-same-length-14
 same-length-14 c = search needs
 
--- src/one.rt:32:1
 same-length-15 : tie.Need-same-length-15
 same-length-15 c = search needs
 
--- src/one.rt:32:1
 returns-3 : tie.Need-returns-3
 returns-3 c =
     let is = c .before .before .before .before .before .before .before .before .before .before .before .before .before .before .before .before .before .before .before .before .before .before .before .before .before .before .before .before .before .before .before .before .before .before .r2 .given .1 in
@@ -140,7 +108,6 @@ returns-3 c =
       λ g fs clients e next f s. commit-one _ _ (record { client = _; count = _; session = _; operations = _; masks = _ }) _ _ is _ _ _ done g fs s clients e next f (c .next-of2 .ensures),
     )
 
--- src/one.rt:32:1
 returns-4 : tie.Need-returns-4
 returns-4 c =
     (tt, λ g fs clients e next f s. not-read _ (c .enum-told .given .1) f)
