@@ -6,7 +6,8 @@ use crate::masks;
 use state::{Found, VersionNumber};
 ghost use Prim.Native.Nat.{ℕ, _+_, _*_, _≤_, _<_};
 ghost use mathlib.Core.Path.{_≡_};
-ghost use lib.ListN.{length};
+ghost use mathlib.Core.List.{List};
+ghost use lib.ListN.{length, getD};
 ghost use Rattle.store.specs.Store.{View, Configuration, shift};
 ghost use Rattle.store.specs.Update.{step};
 ghost use Rattle.store.specs.Refusal.{refusesEvent};
@@ -15,7 +16,31 @@ ghost use Rattle.trace.specs.Format.{viewAt};
 ghost use Rattle.shifts.specs.declared.Outcome.the-variants.{Taken};
 ghost use Rattle.shifts.specs.Outcomes.{outcomeOf, ShiftGiven, ShiftTo};
 
-// Codes 10, 11 and 12 of the masks in `fresh`; where none is due, they become the client's view.
+// The masks in `fresh` are all versions that there are: no code is due, and they become the client's view, which holds all commits that wrote
+// something.
+fn whole_store(client: usize, keys: &[u64], views: &mut [u64], seen: &mut [u64], fresh: &[u64], n: usize) -> Outcome
+    requires { ⌜ (n ≤ 16) × (client < 16) × (length (now keys) ≡ 32) × (length (now views) ≡ 256) × (length (now seen) ≡ 16) × (length (now fresh) ≡ 16) ⌝ }
+    requires { ⌜ ((k : ℕ) → k < n → getD (now fresh) k 0 ≡ getD (now keys) (0 + k) 0) ⌝ }
+    ensures answer {
+        λ r. ⌜
+            ((g : Configuration) (u : View) (versions : List ℕ) (i : ℕ) → ShiftTo g u client n versions (now (keys .entry)) (now (views .entry)) (now (seen .entry)) (now (fresh .entry))
+                → outcomeOf i r ≡ refusesEvent i g (shift client u))
+        ⌝
+    }
+    ensures kept {
+        λ r. ⌜
+            ((g : Configuration) (u : View) (versions : List ℕ) → ShiftTo g u client n versions (now (keys .entry)) (now (views .entry)) (now (seen .entry)) (now (fresh .entry))
+                → r ≡ Taken → KeepsViews (step g (shift client u)) (now (views .exit)) (now (seen .exit)))
+        ⌝
+    }
+{
+    views::masks::keep(views, 16 * client, fresh, n);
+    seen[client] = views::held::all_writers(keys, n);
+    Outcome::Taken
+}
+
+// Codes 10, 11 and 12 of the masks in `fresh`; where none is due, they become the client's view. The commonest masks, all versions that there are,
+// are answered first.
 fn shift_on(client: usize, versions: &[u64], keys: &[u64], views: &mut [u64], seen: &mut [u64], fresh: &[u64], n: usize) -> Outcome
     requires { ⌜ (1 ≤ n) × (n ≤ 16) × (client < 16) ⌝ }
     requires { ⌜ (length (now versions) ≡ 2048) × (length (now keys) ≡ 32) × (length (now views) ≡ 256) × (length (now seen) ≡ 16) × (length (now fresh) ≡ 16) ⌝ }
@@ -32,6 +57,9 @@ fn shift_on(client: usize, versions: &[u64], keys: &[u64], views: &mut [u64], se
         ⌝
     }
 {
+    if views::masks::same(fresh, keys, 0, n) {
+        return whole_store(client, keys, views, seen, fresh, n);
+    }
     let base = 16 * client;
     match masks::sight(versions, keys, fresh, views, base, seen[client], n) {
         Sight::Bad(k) => Outcome::Refused { code: 10, key: k, version: VersionNumber(0) },

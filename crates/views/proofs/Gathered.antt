@@ -17,7 +17,7 @@ use Rattle.state.specs.Keeps.{IsSet}
 use Rattle.state.proofs.Sets.{isSet-none, isSet-insert}
 use Rattle.state.proofs.Below.{from-none, key-more}
 use Rattle.views.specs.Words.{writerIn}
-use Rattle.views.specs.Gained.{WriterAmong, GainedAt, Gains, LackingAt, LackingBelow}
+use Rattle.views.specs.Gained.{WriterAmong, GainedAt, Gains, WriterAt, WriterBelow, LackingAt, LackingBelow}
 use Rattle.views.proofs.Tests.{has-as}
 
 -- ---- over the numbers of a set
@@ -95,6 +95,14 @@ module _ (versions fresh masks : List ℕ) (base : ℕ) where
       each : (i : ℕ) → i < k + 1 → Dec (i ≡ k) → IsSet (getD (set gain k w) i 0) (GainedAt versions fresh masks base i)
       each i b (yes q) = rw (q, getD-set-same gain k w 0 l) p
       each i b (no q) = rw (getD-set-other gain k i w 0 q) (g .each i (omega arith))
+
+-- who wrote each key
+module _ (keys : List ℕ) where
+  pub writers-none : IsSet 0 (WriterBelow keys 0)
+  writers-none = from-none (WriterAt keys)
+
+  pub writers-more : (k a : ℕ) {c : ℕ} → IsSet a (WriterBelow keys k) → c ≡ union a (getD keys (writersPlace k) 0) → IsSet c (WriterBelow keys (k + 1))
+  writers-more k a p e = key-more (WriterAt keys) a p (getD keys (writersPlace k) 0) (λ t. (λ x. x, λ x. x)) e
 
 -- what each key lacks
 module _ (keys gain : List ℕ) where

@@ -23,9 +23,16 @@ pub record Gains (versions fresh masks : List ℕ) (base n : ℕ) (gain : List �
   pub each : (k : Key) → k < n → IsSet (getD gain k 0) (GainedAt versions fresh masks base k)
   pub whole : IsSet all (λ t. (k : Key) × (k < n) × GainedAt versions fresh masks base k t)
 
+-- t wrote a version of key k; of some key below n
+abbrev pub WriterAt : List ℕ → Key → CommitNumber → Type 0
+WriterAt keys k t = T (has (getD keys (writersPlace k) 0) t)
+
+abbrev pub WriterBelow : List ℕ → ℕ → CommitNumber → Type 0
+WriterBelow keys n t = (k : Key) × (k < n) × WriterAt keys k t
+
 -- t wrote a version of key k, and has gained none of it; of some key below n
 abbrev pub LackingAt : List ℕ → List ℕ → Key → CommitNumber → Type 0
-LackingAt keys gain k t = T (has (getD keys (writersPlace k) 0) t) × (¬ T (has (getD gain k 0) t))
+LackingAt keys gain k t = WriterAt keys k t × (¬ T (has (getD gain k 0) t))
 
 abbrev pub LackingBelow : List ℕ → List ℕ → ℕ → CommitNumber → Type 0
 LackingBelow keys gain n t = (k : Key) × (k < n) × LackingAt keys gain k t

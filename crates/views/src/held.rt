@@ -10,7 +10,7 @@ ghost use lib.ListN.{length};
 ghost use Rattle.sets.specs.Set.{has};
 ghost use Rattle.store.specs.Store.{View, Store};
 ghost use Rattle.state.specs.Keeps.{IsSet};
-ghost use Rattle.views.specs.Gained.{WriterAmong, Gains, LackingBelow};
+ghost use Rattle.views.specs.Gained.{WriterAmong, WriterBelow, Gains, LackingBelow};
 ghost use Rattle.views.specs.Viewed.{ViewedAs, NewMasks};
 
 // The writers of some versions of one key.
@@ -68,6 +68,20 @@ fn lacking(keys: &[u64], gain: &[u64], n: usize) -> u64
     all
 }
 
+// The commits that wrote something.
+pub fn all_writers(keys: &[u64], n: usize) -> u64
+    requires { ⌜ (n ≤ 16) × (length (now keys) ≡ 32) ⌝ }
+    ensures { λ r. ⌜ IsSet r (WriterBelow (now (keys .entry)) n) ⌝ }
+{
+    let mut all = 0u64;
+    let mut k: usize = 0;
+    while k < n {
+        all = sets::union(all, keys[crate::WRITERS + k]);
+        k = k + 1;
+    }
+    all
+}
+
 // Masks that hold all of the view at `base`.
 fn grown(
     versions: &[u64],
@@ -110,8 +124,7 @@ pub fn viewed(
     ensures { λ r. ⌜ ((s : Store) (old u : View) → NewMasks s old u n (now (versions .entry)) (now (keys .entry)) (now (views .entry)) base seen (now (fresh .entry)) → ViewedAs s u r) ⌝ }
 {
     if masks::same(fresh, keys, 0, n) {
-        let nothing = [0u64; 16];
-        return Viewed::Holds(lacking(keys, &nothing, n));
+        return Viewed::Holds(all_writers(keys, n));
     }
     if masks::same(fresh, views, base, n) {
         return Viewed::Holds(seen);

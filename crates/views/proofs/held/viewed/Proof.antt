@@ -14,16 +14,13 @@ use Rattle.views.proofs.held.viewed.Tie as tie
 same-requires : tie.Need-same-requires
 same-requires c κs = search needs
 
-slice-aggregate-lacking : tie.Need-slice-aggregate-lacking
-slice-aggregate-lacking c = search needs
-
-lacking-requires : tie.Need-lacking-requires
-lacking-requires c κs = search needs
+all-writers-requires : tie.Need-all-writers-requires
+all-writers-requires c κs = search needs
 
 returns : tie.Need-returns
 returns c = λ s old u m.
-    let e = c .before .before .before .same .ensures .0 (true-T _ (c .before .before .if1 .taken)) in
-    (full-not-half s old u _ _ _ _ _ _ _ m e, full-holds-all s old u _ _ _ _ _ _ _ m e (c .lacking .result) (omega arith) (c .lacking .ensures))
+    let e = c .before .before .same .ensures .0 (true-T _ (c .before .if1 .taken)) in
+    (full-not-half s old u _ _ _ _ _ _ _ m e, full-holds-all s u _ _ _ (m .arrays .number) (m .arrays .sound) (m .arrays .in-keys) (m .in-fresh) e (c .all-writers .result) (c .all-writers .ensures))
 
 same-requires-2 : tie.Need-same-requires-2
 same-requires-2 c κs = search needs
@@ -76,8 +73,7 @@ viewed-spec =
     tie.close
     (tie.spec
     same-requires
-    slice-aggregate-lacking
-    lacking-requires
+    all-writers-requires
     returns
     same-requires-2
     returns-2
