@@ -1,3 +1,4 @@
+-- `shifts::masks::sight` meets its contract. Assumes nothing.
 use mathlib.Core.Path.{_≡_, sym, ap, subst, _∙_}
 use mathlib.Core.Option.{none}
 use Rattle.store.specs.Refusal.{badMask}
@@ -7,46 +8,34 @@ use Rattle.shifts.proofs.Refused.{new-masks}
 use borrow.Author.Needs.{needs}
 use Rattle.shifts.proofs.masks.sight.Statement.{statement}
 use Rattle.shifts.proofs.masks.sight.Tie as tie
-use Rattle.shifts.proofs.masks.sight.Reads as reads
-use Rattle.shifts.proofs.masks.sight.Lts as lts
-use Rattle.views.proofs.held.viewed.Reads as viewed-reads
-use Rattle.views.proofs.masks.bad_mask.Reads as bad-mask-reads
 
--- src/masks.rt:28:9
 bad-mask-requires : tie.Need-bad-mask-requires
 bad-mask-requires c κs = search needs
 
--- src/masks.rt:29:28
 enum-known-bad : tie.Need-enum-known-bad
 enum-known-bad c = search needs
 
--- src/masks.rt:30:9
 returns : tie.Need-returns
 returns c = λ s old u m. sym (c .before .before .before .bad-mask .ensures s u (m .arrays .number) (m .arrays .in-keys) (m .in-fresh)) ∙ ap keyOf (c .before .bad .given .1)
 
 enum-told : tie.Need-enum-told
 enum-told c = search needs
 
--- src/masks.rt:32:9
 viewed-requires : tie.Need-viewed-requires
 viewed-requires c κs = search needs
 
--- src/masks.rt:34:23
 enum-known-v : tie.Need-enum-known-v
 enum-known-v c = search needs
 
--- src/masks.rt:35:22
 enum-known-v-2 : tie.Need-enum-known-v-2
 enum-known-v-2 c = search needs
 
--- src/masks.rt:13:1
 returns-2 : tie.Need-returns-2
 returns-2 c = λ s old u m.
     let good : badMask s u ≡ none = sym (c .before .before .before .before .before .before .bad-mask .ensures s u (m .arrays .number) (m .arrays .in-keys) (m .in-fresh)) ∙ ap keyOf (c .before .before .before .before .enum-told .given .1) in
     let x = subst (ViewedAs s u) (c .before .v .given .1) (c .before .before .before .viewed .ensures s old u (new-masks s old u _ _ _ _ _ _ _ m good)) in
     (good, x .0, x .1)
 
--- src/masks.rt:13:1
 returns-3 : tie.Need-returns-3
 returns-3 c = λ s old u m.
     let good : badMask s u ≡ none = sym (c .before .before .before .before .before .before .bad-mask .ensures s u (m .arrays .number) (m .arrays .in-keys) (m .in-fresh)) ∙ ap keyOf (c .before .before .before .before .enum-told .given .1) in

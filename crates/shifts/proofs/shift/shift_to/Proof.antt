@@ -1,34 +1,25 @@
+-- `shifts::shift::shift_to` meets its contract. Assumes nothing.
 use native.Mathlib.Omega.{arith}
 use Rattle.shifts.proofs.Refused.{shift-to}
 use borrow.Author.Needs.{needs}
 use Rattle.shifts.proofs.shift.shift_to.Statement.{statement}
 use Rattle.shifts.proofs.shift.shift_to.Tie as tie
-use Rattle.shifts.proofs.shift.shift_to.Reads as reads
-use Rattle.shifts.proofs.shift.shift_to.Lts as lts
-use Rattle.shifts.proofs.shift.shift_on.Reads as shift-on-reads
-use Rattle.trace.proofs.contents.masks_into.Reads as masks-into-reads
 
--- src/shift.rt:90:5
 masks-into-requires : tie.Need-masks-into-requires
 masks-into-requires c κs = search needs
 
--- src/shift.rt:91:5
 shift-on-requires : tie.Need-shift-on-requires
 shift-on-requires c κs = search needs
 
--- src/shift.rt:68:1
 same-length : tie.Need-same-length
 same-length c = search needs
 
--- src/shift.rt:68:1
 same-length-2 : tie.Need-same-length-2
 same-length-2 c = search needs
 
--- src/shift.rt:68:1
 same-length-3 : tie.Need-same-length-3
 same-length-3 c = search needs
 
--- src/shift.rt:68:1
 returns : tie.Need-returns
 returns c = (
   λ g i h. c .before .before .before .before .shift-on .ensures .0 g _ i (shift-to g _ _ _ _ _ _ _ _ _ h (omega arith) (c .before .before .before .before .before .before .before .before .before .before .masks-into .ensures .0)),
