@@ -5,19 +5,16 @@ use mathlib.Core.List.{List}
 use native.Mathlib.Omega.{arith}
 use lib.Dec.{T}
 use lib.ListN.{getD}
-use Rattle.search.proofs.Tests.{same}
 use Rattle.sets.specs.Set.{Set, has, union}
-use Rattle.store.specs.Store.{Key, CommitNumber}
+use Rattle.store.specs.Store.{Key}
 use Rattle.state.specs.Keeps.{IsSet}
 use Rattle.state.specs.Places.{writersPlace}
-use Rattle.state.proofs.Below.{from-none, from-turn, RowWith, keys-turn, keys-passed}
-use Rattle.verdicts.specs.Sources.{InKeys, InAnyKey}
+use Rattle.state.proofs.Below.{from-none, RowWith, keys-turn, keys-passed}
+use Rattle.verdicts.specs.Sources.{InKeys}
 
 module _ (keys : List ℕ) where
   abbrev row : Key → Set
   row k = getD keys (writersPlace k) 0
-
-  -- ---- of the keys with a write among the ranks
 
   module _ (ranks : Set) where
     pub in-keys-none : IsSet 0 (InKeys keys ranks 0)
@@ -29,14 +26,3 @@ module _ (keys : List ℕ) where
 
       pub in-keys-passed : IsSet all (InKeys keys ranks q)
       in-keys-passed = keys-passed row ranks 1 all h l none
-
-  -- ---- of all keys
-
-  abbrev Writes : Key → CommitNumber → Type 0
-  Writes k a = T (has (row k) a)
-
-  pub any-key-none : IsSet 0 (InAnyKey keys 0)
-  any-key-none = from-none Writes
-
-  pub any-key-turn : (k : ℕ) (all : Set) → IsSet all (InAnyKey keys k) → {next : Set} → next ≡ union all (row k) → IsSet next (InAnyKey keys (k + 1))
-  any-key-turn k all h = from-turn Writes all h (omega arith) (λ j l m a x. absurd (omega arith)) (row k) (λ a. same)

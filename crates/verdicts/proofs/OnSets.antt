@@ -25,7 +25,8 @@ use Rattle.state.specs.Keeps.{IsSet, KeepsKeys, KeepsCommits, KeepsOperations, 
 use Rattle.state.proofs.Sets.{isSet-as, isSet-without}
 use Rattle.views.proofs.Codes.{writes-is}
 use Rattle.paths.specs.Path.{LeadsInto}
-use Rattle.verdicts.specs.Sources.{InKeys, InAnyKey}
+use Rattle.views.specs.Gained.{WriterBelow}
+use Rattle.verdicts.specs.Sources.{InKeys}
 use Rattle.verdicts.specs.Wants.{Lacks, Wants}
 
 -- a key is written where its rank is in the set
@@ -34,10 +35,10 @@ writes-ranked {c} {ranks} {values} h k = rw (writes-is c ranks values h k) same
 
 module _ (s : Store) (u : View) (seen : Set) (h : IsSet seen (Holds (history s) (held u))) where
   -- the writers of the store of which the view holds nothing
-  pub lacking-is : (keys : List ℕ) (n all : ℕ) → s .keys ≡ n → SoundStore s → KeepsKeys s keys → IsSet all (InAnyKey keys n) → IsSet (without all seen) (Lacking s u)
+  pub lacking-is : (keys : List ℕ) (n all : ℕ) → s .keys ≡ n → SoundStore s → KeepsKeys s keys → IsSet all (WriterBelow keys n) → IsSet (without all seen) (Lacking s u)
   lacking-is keys n all e sound kept is = isSet-without all seen (isSet-as all writer is) h
     where
-      writer : (a : CommitNumber) → InAnyKey keys n a ↔ Writer (history s) a
+      writer : (a : CommitNumber) → WriterBelow keys n a ↔ Writer (history s) a
       writer a = (
         λ (k, l, x). (k, kept .writers k (rw e l) a .0 x),
         λ (k, (i, w)). let l = sound .only-keys k i (w .0) in (k, rw (← e) l, kept .writers k l a .1 (i, w)),

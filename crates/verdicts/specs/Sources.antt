@@ -10,7 +10,3 @@ use Rattle.state.specs.Places.{writersPlace}
 -- a is among the writers of a key below n that has a write among the ranks
 abbrev pub InKeys : List ℕ → Set → ℕ → CommitNumber → Type 0
 InKeys keys ranks n a = (k : Key) × (k < n) × (T (has ranks (2 * k + 1)) × T (has (getD keys (writersPlace k) 0) a))
-
--- a is among the writers of a key below n
-abbrev pub InAnyKey : List ℕ → ℕ → CommitNumber → Type 0
-InAnyKey keys n a = (k : Key) × (k < n) × T (has (getD keys (writersPlace k) 0) a)

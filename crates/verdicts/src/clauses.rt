@@ -31,7 +31,7 @@ pub fn wanted(
     requires { ⌜ (n ≤ 16) × (length (now keys) ≡ 32) × (length (now commits) ≡ 192) × (length (now links) ≡ 160) ⌝ }
     ensures { λ r. ⌜ ((s : Store) (u : View) (c : Commit) (values : List ℕ) → s .keys ≡ n → SoundStore s → KeepsKeys s (now (keys .entry)) → KeepsCommits s (now (commits .entry)) → KeepsLinks s (now (links .entry)) → KeepsOperations c ranks values → IsSet seen (Holds (history s) (held u)) → Wants s u c r) ⌝ }
 {
-    let lacking = sets::without(sources::writers(keys, n), seen);
+    let lacking = sets::without(views::held::all_writers(keys, n), seen);
     if lacking == 0 {
         return Wanted {
             lacking: 0,

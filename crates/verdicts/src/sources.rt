@@ -3,7 +3,7 @@ ghost use mathlib.Core.Path.{_≡_};
 ghost use Prim.Native.Nat.{_≤_};
 ghost use lib.ListN.{length};
 ghost use Rattle.state.specs.Keeps.{IsSet};
-ghost use Rattle.verdicts.specs.Sources.{InKeys, InAnyKey};
+ghost use Rattle.verdicts.specs.Sources.{InKeys};
 
 // The writers of the keys that have a write among the ranks.
 pub fn written(keys: &[u64], ranks: u64, n: usize) -> u64
@@ -16,20 +16,6 @@ pub fn written(keys: &[u64], ranks: u64, n: usize) -> u64
         let k = sets::lowest(left) / 2;
         all = sets::union(all, keys[16 + k]);
         left = sets::rest(left);
-    }
-    all
-}
-
-// All writers of the store.
-pub fn writers(keys: &[u64], n: usize) -> u64
-    requires { ⌜ (n ≤ 16) × (length (now keys) ≡ 32) ⌝ }
-    ensures { λ r. ⌜ IsSet r (InAnyKey (now (keys .entry)) n) ⌝ }
-{
-    let mut all = 0u64;
-    let mut k: usize = 0;
-    while k < n {
-        all = sets::union(all, keys[16 + k]);
-        k = k + 1;
     }
     all
 }

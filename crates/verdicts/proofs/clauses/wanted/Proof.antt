@@ -5,8 +5,8 @@ use Rattle.verdicts.proofs.OnSets.{lacking-is, before-is, read-is, writ
 use Rattle.verdicts.proofs.clauses.wanted.Statement.{statement}
 use Rattle.verdicts.proofs.clauses.wanted.Tie as tie
 
-writers-requires : tie.Need-writers-requires
-writers-requires c κs = search needs
+all-writers-requires : tie.Need-all-writers-requires
+all-writers-requires c κs = search needs
 
 without-requires : tie.Need-without-requires
 without-requires c κs = search needs
@@ -16,7 +16,7 @@ returns c =
     let entry = c .before .before .before .before .before .before in
     λ s u commit values e sound in-keys in-commits in-links operations held-is.
     wants-nothing s u commit _
-    (lacking-is s u (entry .args .seen) held-is (entry .args .keys .now) (entry .args .n) (c .before .before .writers .result) e sound in-keys (c .before .before .writers .ensures))
+    (lacking-is s u (entry .args .seen) held-is (entry .args .keys .now) (entry .args .n) (c .before .before .all-writers .result) e sound in-keys (c .before .before .all-writers .ensures))
     (sym (c .before .without .ensures) ∙ c .if1 .taken)
 
 gather-requires : tie.Need-gather-requires
@@ -40,7 +40,7 @@ returns-2 c =
     λ s u commit values e sound in-keys in-commits in-links operations held-is.
     record {
       lacking = rw (c .before .before .before .before .before .before .without .ensures)
-          (lacking-is s u (entry .args .seen) held-is (entry .args .keys .now) (entry .args .n) (c .before .before .before .before .before .before .before .writers .result) e sound in-keys (c .before .before .before .before .before .before .before .writers .ensures));
+          (lacking-is s u (entry .args .seen) held-is (entry .args .keys .now) (entry .args .n) (c .before .before .before .before .before .before .before .all-writers .result) e sound in-keys (c .before .before .before .before .before .before .before .all-writers .ensures));
       before = λ x. before-is s u (entry .args .seen) held-is (entry .args .commits .now) (c .before .before .before .before .gather .result) (entry .fits .seen .fits) in-commits (c .before .before .before .before .gather .ensures);
       read = λ x. read-is s u (entry .args .seen) held-is (entry .args .commits .now) (c .before .before .before .gather2 .result) (entry .fits .seen .fits) in-commits (c .before .before .before .gather2 .ensures);
       written = λ x. written-is s u (entry .args .seen) held-is commit (entry .args .keys .now) (entry .args .ranks) values (entry .args .n) (c .before .before .written .result) e sound in-keys operations (c .before .before .written .ensures);
@@ -52,7 +52,7 @@ pub wanted-spec : {M : Type 1} → statement M
 wanted-spec =
     tie.close
     (tie.spec
-    writers-requires
+    all-writers-requires
     without-requires
     returns
     gather-requires
