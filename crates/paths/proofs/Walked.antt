@@ -1,16 +1,17 @@
 -- A walk against the links of any relation R, from the members of a set to all that lead to one: what holds on the way, and that it ends with
 -- everything that leads to a member. `done` are the numbers whose row was taken, `left` those whose row is taken in the next round. Assumes nothing.
 use Prim.Native.Nat.{ℕ, _+_, _^_, _<_}
-use mathlib.Core.Path.{_≡_, subst}
+use mathlib.Core.Path.{_≡_, sym, ap, _∙_, subst}
+use mathlib.Core.Bool.{Bool, _||_}
 use mathlib.Core.Logic.{_⊎_, inl, inr}
 use mathlib.Core.List.{List}
 use native.Mathlib.Omega.{arith}
 use lib.Dec.{T}
 use lib.ListN.{getD}
-use Rattle.search.proofs.Tests.{same, T?}
+use Rattle.search.proofs.Tests.{same, T?, T-false}
 use Rattle.sets.specs.Set.{Set, has, union, without, lowest}
 use Rattle.sets.proofs.Laws.{has-none, has-lt, has-lowest}
-use Rattle.sets.proofs.Algebra.{without-is, union-larger}
+use Rattle.sets.proofs.Algebra.{has-union, without-is, same-sets, union-larger}
 use Rattle.relations.specs.Relation.{Plus, one, more}
 use Rattle.state.specs.Keeps.{IsSet}
 use Rattle.state.specs.Rows.{InRows}
@@ -133,3 +134,12 @@ pub walk-turn : {R : ℕ → ℕ → Type 0} {set all done left : Set} → Walke
     → {all″ done″ left″ : Set} → all″ ≡ union all rows → done″ ≡ union done left → left″ ≡ without all″ done″ → Walked R set all″ done″ left″
 walk-turn {left = left} w l links from row rows is e f g =
     rw (g, e, f) (walk-on w rows (isSet-as rows (λ a. (λ (t, m, x). (t, m, row t (has-lt 64 left t l m) a .0 x), λ (t, m, r). (t, m, row t (has-lt 64 left t l m) a .1 r))) is))
+
+-- the first round takes the set itself
+none-union : (m : Set) → m ≡ union 0 m
+none-union m = sym (same-sets (union 0 m) m (λ i. has-union 0 m i ∙ ap (λ (b : Bool). b || has m i) (T-false (has 0 i) (has-none i))))
+
+pub walk-first : {R : ℕ → ℕ → Type 0} {set : Set} → set < 2 ^ 64
+    → (links : List ℕ) (from : ℕ) → ((t : ℕ) → t < 64 → IsSet (getD links (from + t) 0) (λ a. R a t)) → (first : Set) → IsSet first (InRows links from set)
+    → {left : Set} → left ≡ without first set → Walked R set first set left
+walk-first {R} {set} l links from row first is e = walk-turn (walk-begins R set) l links from row first is (none-union first) (none-union set) e

@@ -3,25 +3,26 @@
 // a link leads from to a reader of the key, which an RW link brings along to the next writer of the key.
 ghost use mathlib.Core.Path.{_≡_};
 ghost use mathlib.Core.List.{List};
-ghost use Prim.Native.Nat.{ℕ, _<_, _≤_};
+ghost use Prim.Native.Nat.{ℕ, _*_, _<_, _≤_};
 ghost use lib.ListN.{length};
 ghost use Rattle.store.specs.Store.{Store, View, Commit, nextNumber};
 ghost use Rattle.store.specs.Update.{update};
 ghost use Rattle.growth.proofs.Made.{Made};
 ghost use Rattle.growth.proofs.Links.{FromSession, FromRead, FromWrite, ToLater};
 ghost use Rattle.state.specs.Keeps.{IsSet, KeepsLinks, KeepsOperations};
+ghost use Rattle.state.specs.Rows.{InRows};
 ghost use Rattle.paths.specs.Path.{LeadsInto};
 ghost use Rattle.paths.specs.Added.{BroughtBelow, Joined, RowsOf, LeadsOf};
 
-// The commits that lead to a member of the set by one or more steps: a walk over the rows, each taken once. A round takes the rows of all
-// that the rounds before it found, so that no row waits for another of its round.
-pub fn leading(links: &[u64], kind: usize, set: u64) -> u64
+// The commits that lead to a member of the set by one or more steps, where `first` are those that do by one: a walk over the rows, each
+// taken once. A round takes the rows of all that the rounds before it found, so that no row waits for another of its round.
+fn walk(links: &[u64], kind: usize, set: u64, first: u64) -> u64
     requires { ⌜ (length (now links) ≡ 160) × (kind < 2) ⌝ }
-    ensures { λ r. ⌜ ((s : Store) → KeepsLinks s (now (links .entry)) → IsSet r (LeadsInto kind s set)) ⌝ }
+    ensures { λ r. ⌜ ((s : Store) → KeepsLinks s (now (links .entry)) → IsSet first (InRows (now (links .entry)) (64 * kind) set) → IsSet r (LeadsInto kind s set)) ⌝ }
 {
-    let mut all = 0u64;
-    let mut done = 0u64;
-    let mut left = set;
+    let mut all = first;
+    let mut done = set;
+    let mut left = sets::without(first, set);
     while left != 0 {
         all = sets::union(all, state::gather(links, 64 * kind, left));
         done = sets::union(done, left);
@@ -30,12 +31,25 @@ pub fn leading(links: &[u64], kind: usize, set: u64) -> u64
     all
 }
 
-// What the readers of the keys that are written bring along, for clause 6 and for clause 7.
-struct Leads {
-    prefix: u64,
-    snapshot: u64,
+// Commits for clause 6 and for clause 7.
+pub struct Leads {
+    pub prefix: u64,
+    pub snapshot: u64,
 }
 
+// The commits that lead to a member of the set by one or more steps, of clause 6 and of clause 7. The rows of the set itself, which is
+// most of the work, are taken for both at once.
+pub fn leading(links: &[u64], set: u64) -> Leads
+    requires { ⌜ length (now links) ≡ 160 ⌝ }
+    ensures { λ r. ⌜ ((s : Store) → KeepsLinks s (now (links .entry)) → IsSet (r .prefix) (LeadsInto 0 s set) × IsSet (r .snapshot) (LeadsInto 1 s set)) ⌝ }
+{
+    let rows = state::gather_two(links, 0, 64, set);
+    let prefix = walk(links, 0, set, rows.first);
+    let snapshot = walk(links, 1, set, rows.second);
+    Leads { prefix, snapshot }
+}
+
+// What the readers of the keys that are written bring along, for clause 6 and for clause 7.
 fn brought(links: &[u64], ranks: u64, n: usize) -> Leads
     requires { ⌜ (length (now links) ≡ 160) × (n ≤ 16) ⌝ }
     ensures { λ r. ⌜ IsSet (r .prefix) (BroughtBelow 0 (now (links .entry)) ranks n) × IsSet (r .snapshot) (BroughtBelow 1 (now (links .entry)) ranks n) ⌝ }

@@ -60,3 +60,26 @@ pub fn gather(rows: &[u64], from: usize, set: u64) -> u64
     }
     all
 }
+
+// What is gathered from the rows of two parts of an array.
+pub struct Gathered {
+    pub first: u64,
+    pub second: u64,
+}
+
+// All that is in the rows of the members of a set, of two parts of an array at once; the rows of number t stand at one + t and two + t.
+pub fn gather_two(rows: &[u64], one: usize, two: usize, set: u64) -> Gathered
+    requires { ⌜ (one + 64 ≤ length (now rows)) × (two + 64 ≤ length (now rows)) ⌝ }
+    ensures { λ r. ⌜ IsSet (r .first) (InRows (now (rows .entry)) one set) × IsSet (r .second) (InRows (now (rows .entry)) two set) ⌝ }
+{
+    let mut first = 0u64;
+    let mut second = 0u64;
+    let mut left = set;
+    while left != 0 {
+        let t = sets::lowest(left);
+        first = sets::union(first, rows[one + t]);
+        second = sets::union(second, rows[two + t]);
+        left = sets::rest(left);
+    }
+    Gathered { first, second }
+}

@@ -42,13 +42,16 @@ pub fn wanted(
             snapshot: 0,
         };
     }
+    let past = state::gather_two(commits, 64, 128, seen);
+    let leads = paths::leading(links, seen);
+    let written = sources::written(keys, ranks, n);
     Wanted {
         lacking,
-        before: state::gather(commits, 64, seen),
-        read: state::gather(commits, 128, seen),
-        written: sources::written(keys, ranks, n),
-        prefix: paths::leading(links, 0, seen),
-        snapshot: paths::leading(links, 1, seen),
+        before: past.first,
+        read: past.second,
+        written,
+        prefix: leads.prefix,
+        snapshot: leads.snapshot,
     }
 }
 
