@@ -24,7 +24,7 @@ use Rattle.growth.proofs.Made.{Made, sound-after}
 use Rattle.trace.proofs.Fits.{commit-fits}
 use Rattle.levels.specs.Level.{Level, Failure, failsEvent, failsClauses, clausesOf}
 use Rattle.state.specs.Keeps.{IsSet, KeepsVersions, KeepsKeys, KeepsViews, KeepsMasks, KeepsOperations, Keeps}
-use Rattle.views.specs.Rows.{RowAt}
+use Rattle.state.specs.Rows.{RowAt}
 use Rattle.views.specs.Rules.{StoreAndView}
 use Rattle.views.specs.Own.{AddsOwn}
 use Rattle.verdicts.specs.AtHand.{BeforeCommit}

@@ -15,7 +15,7 @@ use Rattle.store.specs.Limits.{maxKeys}
 use Rattle.store.specs.Store.{Key, VersionNumber, CommitNumber, Value, Version, openingVersion, View, Store, count, version, read, Commit}
 use Rattle.store.specs.Update.{valueOf, newest, readBy, noteRead}
 use Rattle.store.proofs.Updated.{Wrote, note-length, note-writer}
-use Rattle.state.specs.Places.{perKey, headPlace, readersPlace}
+use Rattle.state.specs.Places.{perKey, headPlace, readersPlace, writerIn}
 use Rattle.state.specs.Keeps.{KeepsVersions, KeepsKeys}
 use Rattle.state.specs.Accesses.{Left}
 use Rattle.state.proofs.Sets.{isSet-as}
@@ -104,7 +104,7 @@ module _ {s : Store} {u : View} {c : Commit} {versions views : List ℕ} {base :
 
     -- the version that the key of the turn is read from has its writer still
     pub writer-left : 0 < left → {q : ℕ} → q ≡ lowest left / 2 → (a : List ℕ) → ReadsPassed s u c t n k a
-        → getD a (headPlace q (highest (getD views (base + q) 0))) 0 / 2 ^ 32 % 64 ≡ version s q (newest u q) .writer
+        → writerIn (getD a (headPlace q (highest (getD views (base + q) 0))) 0) ≡ version s q (newest u q) .writer
     writer-left pos {q} d a p =
         let (b, l, _, _) = next-key h pos d in
         let x : newest u q < count s q = seen-exists g q l in

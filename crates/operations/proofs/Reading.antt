@@ -17,7 +17,7 @@ use Rattle.sets.proofs.Laws.{has-large, has-highest}
 use Rattle.store.specs.Store.{Key, Value, Version, View, Store, count, version, nextNumber, read, Commit}
 use Rattle.store.specs.Update.{reads, writes, newest}
 use Rattle.store.specs.Refusal.{differs, wrongAt, wrongRead}
-use Rattle.state.specs.Places.{headPlace, packed}
+use Rattle.state.specs.Places.{headPlace, packed, writerIn}
 use Rattle.state.specs.Keeps.{KeepsOperations}
 use Rattle.operations.specs.Given.{Given}
 
@@ -61,7 +61,8 @@ module _ {c : Commit} {ranks : Set} {values : List ℕ} (o : KeepsOperations c r
 module _ {s : Store} {u : View} {c : Commit} {versions views : List ℕ} {base : ℕ} {values : List ℕ} {ranks n : ℕ}
     (g : Given s u c versions views base values ranks n) where
   -- the writer in the head of a version
-  pub writer-packed : (k : Key) {i h : ℕ} → i < count s k → h ≡ packed (version s k i .value) (version s k i .writer) → h / 2 ^ 32 % 64 ≡ version s k i .writer
+  pub writer-packed : (k : Key) {i h : ℕ} → i < count s k → h ≡ packed (version s k i .value) (version s k i .writer) → writerIn h ≡ version s k i .writer
+  unfolding writerIn
   writer-packed k {i} {h} l e =
       let w : h / 2 ^ 32 ≡ version s k i .writer = rw e (high-half _ _ (g .in-versions .value-fits k i l)) in
       let b : version s k i .writer < nextNumber s = g .sound .writers _ k i (l, refl) in

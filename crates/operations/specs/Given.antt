@@ -1,19 +1,15 @@
 -- The commit at hand: made on a view of a store, as the arrays of the judge have them. Assumes nothing.
-use Prim.Native.Nat.{ℕ, _+_, _≤_, _<_}
+use Prim.Native.Nat.{ℕ, _≤_, _<_}
 use mathlib.Core.Path.{_≡_}
 use mathlib.Core.List.{List}
 use lib.Dec.{T}
-use lib.ListN.{getD}
 use Rattle.sets.specs.Set.{Set}
 use Rattle.store.specs.Limits.{maxCommits}
 use Rattle.store.specs.Store.{Key, View, Store, count, nextNumber, Commit}
 use Rattle.store.specs.Update.{writes}
 use Rattle.store.proofs.Sound.{IsView, SoundStore, FitsCommit}
+use Rattle.state.specs.Rows.{RowAt}
 use Rattle.state.specs.Keeps.{KeepsVersions, KeepsKeys, KeepsOperations}
-
--- the masks of the view stand in the array from `base` on: the row of client d starts at 16 * d
-abbrev pub RowAt : ℕ → List ℕ → ℕ → View → Type 0
-RowAt keys masks base u = (k : Key) → k < keys → getD masks (base + k) 0 ≡ u k
 
 -- commit c is to be made on view u of store s, which has n keys and room for a commit; the versions, the row of the view and the
 -- operations are in the arrays

@@ -11,7 +11,7 @@ ghost use Rattle.sets.specs.Set.{has, highest};
 ghost use Rattle.store.specs.Store.{View, Store, nextNumber, Commit};
 ghost use Rattle.store.specs.Refusal.{wrongAt, wrongRead};
 ghost use Rattle.store.specs.Update.{update};
-ghost use Rattle.state.specs.Places.{headPlace, readersPlace};
+ghost use Rattle.state.specs.Places.{headPlace, readersPlace, writerIn};
 ghost use Rattle.growth.proofs.Links.{FromRead, FromWrite, ToLater};
 ghost use Rattle.growth.proofs.Ordered.{Ordered};
 ghost use Rattle.state.specs.Answers.{placeOf};
@@ -29,13 +29,6 @@ fn value_of(head: u64) -> u64
     ensures { λ r. ⌜ r ≡ head % 2 ^ 32 ⌝ }
 {
     head % 0x1_0000_0000
-}
-
-// The writer in the head of a version; commit numbers are below 64.
-fn writer_of(head: u64) -> usize
-    ensures { λ r. ⌜ (r ≡ head / 2 ^ 32 % 64) × (r < 64) ⌝ }
-{
-    (head / 0x1_0000_0000 % 64) as usize
 }
 
 // The number of the version that a read of key k sees.
@@ -91,9 +84,9 @@ pub fn wrong_read(
 // The writer of the version that a read of key k sees.
 fn writer_seen(versions: &[u64], views: &[u64], base: usize, k: usize) -> usize
     requires { ⌜ (length (now versions) ≡ 2048) × (length (now views) ≡ 256) × (base + k < 256) × (k < 16) ⌝ }
-    ensures { λ r. ⌜ (r ≡ getD (now (versions .entry)) (headPlace k (highest (getD (now (views .entry)) (base + k) 0))) 0 / 2 ^ 32 % 64) × (r < 64) ⌝ }
+    ensures { λ r. ⌜ (r ≡ writerIn (getD (now (versions .entry)) (headPlace k (highest (getD (now (views .entry)) (base + k) 0))) 0)) × (r < 64) ⌝ }
 {
-    writer_of(head_seen(versions, views, base, k))
+    state::writer_of(head_seen(versions, views, base, k))
 }
 
 // The reader `me` added to the version that a read of key k sees.

@@ -1,5 +1,5 @@
 -- Where things stand in the arrays of the judge. An array holds several tables of equal rows, one after the other. Assumes nothing.
-use Prim.Native.Nat.{ℕ, _+_, _*_, _^_}
+use Prim.Native.Nat.{ℕ, _+_, _*_, _/_, _%_, _^_}
 use Rattle.store.specs.Limits.{maxKeys, maxClients}
 use Rattle.store.specs.Store.{Key, VersionNumber, CommitNumber, Client}
 
@@ -59,3 +59,7 @@ leadPlace kind k = 2 * numbers + (maxKeys * kind + k)
 -- two numbers in one word: the low half, and the high half
 abbrev pub packed : ℕ → ℕ → ℕ
 packed low high = low + 2 ^ 32 * high
+
+-- the writer in the head of a version: the high half, a commit number, which is below 64
+unfoldable pub writerIn : ℕ → ℕ
+writerIn head = head / 2 ^ 32 % 64

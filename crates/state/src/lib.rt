@@ -5,6 +5,7 @@ ghost use mathlib.Core.Path.{_≡_};
 ghost use Prim.Native.Nat.{_+_, _≤_, _<_};
 ghost use lib.ListN.{length};
 ghost use Rattle.sets.specs.Set.{highest};
+ghost use Rattle.state.specs.Places.{writerIn};
 ghost use Rattle.state.specs.Accesses.{Left};
 ghost use Rattle.state.specs.Keeps.{IsSet};
 ghost use Rattle.state.specs.Rows.{InRows};
@@ -28,6 +29,13 @@ pub enum Found {
 pub enum FoundKey {
     AtKey(Key),
     NoKey,
+}
+
+// The writer in the head of a version.
+pub fn writer_of(head: u64) -> usize
+    ensures { λ r. ⌜ (r ≡ writerIn head) × (r < 64) ⌝ }
+{
+    ((head >> 32) % 64) as usize
 }
 
 // The number of the newest version in a mask, and 0 where it holds none.

@@ -24,7 +24,7 @@ use Rattle.store.specs.Update.{writes}
 use Rattle.growth.proofs.Made.{Made}
 use Rattle.state.specs.Keeps.{IsSet, KeepsKeys, KeepsMasks, KeepsOperations}
 use Rattle.state.proofs.Sets.{isSet-as, isSet-none, isSet-single, isSet-union}
-use Rattle.views.specs.Rows.{RowAt}
+use Rattle.state.specs.Rows.{RowAt}
 use Rattle.views.specs.Own.{AddsOwn, ownMask, OwnBelow}
 use Rattle.views.proofs.Tests.{has-as}
 use Rattle.views.proofs.Codes.{writes-is}

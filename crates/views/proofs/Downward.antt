@@ -24,10 +24,9 @@ use Rattle.store.proofs.Updated.{Wrote}
 use Rattle.store.proofs.Missing.{missing-none}
 use Rattle.store.proofs.Links.{history, held, holds-means}
 use Rattle.growth.proofs.Ordered.{writes-once}
-use Rattle.state.specs.Places.{headPlace, writersPlace}
+use Rattle.state.specs.Places.{headPlace, writersPlace, writerIn}
 use Rattle.state.specs.Keeps.{IsSet}
 use Rattle.state.proofs.Sets.{isSet-as, isSet-without}
-use Rattle.views.specs.Words.{writerIn}
 use Rattle.views.specs.Viewed.{NewMasks}
 use Rattle.views.specs.Prefix.{Downward, Prefixes, Lacks}
 use Rattle.views.proofs.Tests.{has-as}

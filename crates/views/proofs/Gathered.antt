@@ -12,11 +12,10 @@ use Rattle.search.proofs.Tests.{both, stable, T?}
 use Rattle.sets.specs.Set.{has, single, insert, union, lowest, without}
 use Rattle.sets.proofs.Laws.{has-none, has-lowest, single-has, single-only}
 use Rattle.sets.proofs.Algebra.{without-is, without-word}
-use Rattle.state.specs.Places.{headPlace, writersPlace}
+use Rattle.state.specs.Places.{headPlace, writersPlace, writerIn}
 use Rattle.state.specs.Keeps.{IsSet}
 use Rattle.state.proofs.Sets.{isSet-none, isSet-insert}
 use Rattle.state.proofs.Below.{from-none, key-more}
-use Rattle.views.specs.Words.{writerIn}
 use Rattle.views.specs.Gained.{WriterAmong, GainedAt, Gains, WriterAt, WriterBelow, LackingAt, LackingBelow}
 use Rattle.views.proofs.Tests.{has-as}
 

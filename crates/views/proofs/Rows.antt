@@ -11,7 +11,8 @@ use Rattle.store.specs.Store.{Client, View}
 use Rattle.store.specs.Update.{atNumber}
 use Rattle.store.proofs.Updated.{at-same, at-other}
 use Rattle.state.specs.Keeps.{RowIs, KeepsMasks}
-use Rattle.views.specs.Rows.{RowAt, Kept}
+use Rattle.state.specs.Rows.{RowAt}
+use Rattle.views.specs.Rows.{Kept}
 
 -- ---- copying
 

@@ -15,8 +15,8 @@ use Rattle.sets.proofs.Laws.{has-lowest}
 use Rattle.sets.proofs.Digits.{digit-and, at-place}
 use Rattle.sets.proofs.Algebra.{empty-is}
 use Rattle.store.specs.Store.{View, Store, count, version}
-use Rattle.state.specs.Places.{headPlace, readersPlace}
-use Rattle.views.specs.Words.{meets, writerIn}
+use Rattle.state.specs.Places.{headPlace, readersPlace, writerIn}
+use Rattle.views.specs.Words.{meets}
 use Rattle.views.specs.Rules.{StoreAndView, byWriter, byReader}
 
 -- ---- what both sets hold

@@ -6,9 +6,8 @@ use lib.Dec.{T}
 use lib.ListN.{getD}
 use Rattle.sets.specs.Set.{Set, has, without}
 use Rattle.store.specs.Store.{Key, CommitNumber}
-use Rattle.state.specs.Places.{headPlace, writersPlace}
+use Rattle.state.specs.Places.{headPlace, writersPlace, writerIn}
 use Rattle.state.specs.Keeps.{IsSet}
-use Rattle.views.specs.Words.{writerIn}
 
 -- t wrote a version in the set, of key k
 abbrev pub WriterAmong : List ℕ → Key → Set → CommitNumber → Type 0

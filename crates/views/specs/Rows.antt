@@ -1,14 +1,10 @@
--- A view in a row of an array. Assumes nothing.
+-- Masks copied into a row of an array. Assumes nothing.
 use Prim.Native.Nat.{ℕ, _+_, _≤_, _<_}
 use mathlib.Core.Path.{_≡_}
 use mathlib.Core.Logic.{_⊎_}
 use mathlib.Core.List.{List}
 use lib.ListN.{length, getD}
-use Rattle.store.specs.Store.{Key, View}
-
--- the masks of the view stand in the array from `base` on: the row of client d starts at 16 * d, and the masks of a record at 0
-abbrev pub RowAt : ℕ → List ℕ → ℕ → View → Type 0
-RowAt keys masks base u = (k : Key) → k < keys → getD masks (base + k) 0 ≡ u k
+use Rattle.store.specs.Store.{Key}
 
 -- the first n masks are copied to `base`, and all other places are as before
 pub record Kept (fresh : List ℕ) (base n : ℕ) (before after : List ℕ) : Type 0 where

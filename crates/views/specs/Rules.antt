@@ -8,7 +8,7 @@ use Rattle.store.specs.Store.{View, Store, version}
 use Rattle.store.specs.Missing.{Rule}
 use Rattle.store.proofs.Sound.{SoundStore}
 use Rattle.state.specs.Keeps.{KeepsVersions, KeepsKeys}
-use Rattle.views.specs.Rows.{RowAt}
+use Rattle.state.specs.Rows.{RowAt}
 use Rattle.views.specs.Words.{meets}
 
 -- each version by a commit of the set

@@ -24,7 +24,7 @@ fn writers_of(versions: &[u64], k: usize, set: u64) -> u64
         let v = sets::lowest(left);
         writers = sets::insert(
             writers,
-            missing::writer_of(versions[crate::PER_KEY * k + v]),
+            state::writer_of(versions[crate::PER_KEY * k + v]),
         );
         left = sets::rest(left);
     }

@@ -14,7 +14,8 @@ ghost use Rattle.store.proofs.Sound.{IsView};
 ghost use Rattle.growth.proofs.Made.{Made};
 ghost use Rattle.state.specs.Keeps.{KeepsKeys, KeepsMasks, KeepsOperations};
 ghost use Rattle.state.specs.Answers.{placeOf, keyOf};
-ghost use Rattle.views.specs.Rows.{RowAt, Kept};
+ghost use Rattle.state.specs.Rows.{RowAt};
+ghost use Rattle.views.specs.Rows.{Kept};
 ghost use Rattle.views.specs.Strays.{strays};
 ghost use Rattle.views.specs.Own.{AddsOwn, ownMask};
 

@@ -12,16 +12,8 @@ ghost use Rattle.store.specs.Missing.{missing};
 ghost use Rattle.store.proofs.Sound.{SoundStore};
 ghost use Rattle.state.specs.Keeps.{KeepsKeys, KeepsMasks, KeepsOperations};
 ghost use Rattle.state.specs.Answers.{placeOf};
-ghost use Rattle.views.specs.Rows.{RowAt};
-ghost use Rattle.views.specs.Words.{writerIn};
+ghost use Rattle.state.specs.Rows.{RowAt};
 ghost use Rattle.views.specs.Rules.{StoreAndView, byWriter, byReader, ofWritten};
-
-// The writer in the head of a version.
-pub fn writer_of(head: u64) -> usize
-    ensures { λ r. ⌜ (r ≡ writerIn head) × (r < 64) ⌝ }
-{
-    ((head >> 32) % 64) as usize
-}
 
 // The first version by a commit of the set that the view at `base` lacks.
 pub fn least_by_writer(
@@ -41,7 +33,7 @@ pub fn least_by_writer(
         let mut left = sets::without(keys[k], masks[base + k]);
         while left != 0 {
             let v = sets::lowest(left);
-            if sets::has(set, writer_of(versions[crate::PER_KEY * k + v])) {
+            if sets::has(set, state::writer_of(versions[crate::PER_KEY * k + v])) {
                 found = state::Found::At(state::Key(k), state::VersionNumber(v));
                 break 'search;
             }

@@ -9,7 +9,7 @@ use Rattle.store.specs.Refusal.{allOf}
 use Rattle.store.proofs.Sound.{IsView}
 use Rattle.store.proofs.Missing.{MetAt}
 use Rattle.state.specs.Keeps.{KeepsMasks}
-use Rattle.views.specs.Rows.{RowAt}
+use Rattle.state.specs.Rows.{RowAt}
 use Rattle.views.proofs.Looking.{lost-wanted, looking-lost, looking-done, looking-found, missing-nowhere}
 use Rattle.views.proofs.masks.lost.Statement.{statement}
 use Rattle.views.proofs.masks.lost.Tie as tie

@@ -9,7 +9,7 @@ use borrow.Author.Count.{below-more}
 use Rattle.store.specs.Store.{View, Store, Commit}
 use Rattle.store.specs.Refusal.{strayAt}
 use Rattle.state.specs.Keeps.{KeepsMasks, KeepsOperations}
-use Rattle.views.specs.Rows.{RowAt}
+use Rattle.state.specs.Rows.{RowAt}
 use Rattle.views.proofs.Codes.{stray-yes, stray-no, stray-at, stray-nowhere}
 use Rattle.views.proofs.masks.stray.Statement.{statement}
 use Rattle.views.proofs.masks.stray.Tie as tie

@@ -8,7 +8,7 @@ use borrow.Author.Count.{below-more}
 use Rattle.store.specs.Store.{View, Store}
 use Rattle.store.proofs.Missing.{MetAt}
 use Rattle.state.specs.Keeps.{KeepsKeys}
-use Rattle.views.specs.Rows.{RowAt}
+use Rattle.state.specs.Rows.{RowAt}
 use Rattle.views.specs.Rules.{ofWritten}
 use Rattle.views.proofs.Tests.{taken, left as not-so}
 use Rattle.views.proofs.Looking.{looking-all, looking-done, looking-found, missing-nowhere}
