@@ -9,7 +9,7 @@ ghost use mathlib.Core.List.{List};
 ghost use lib.Dec.{T};
 ghost use lib.ListN.{length};
 ghost use Rattle.store.specs.Store.{Configuration, nextNumber, Commit, commit};
-ghost use Rattle.store.specs.Update.{step, viewBefore};
+ghost use Rattle.store.specs.Update.{writes, step, viewBefore};
 ghost use Rattle.growth.proofs.Made.{Writes};
 ghost use Rattle.state.specs.Keeps.{IsSet, KeepsOperations, KeepsViews};
 ghost use Rattle.views.specs.Own.{AddsOwn};
@@ -17,15 +17,12 @@ ghost use Rattle.shifts.specs.declared.Outcome.the-variants.{Taken};
 ghost use Rattle.shifts.specs.Outcomes.{outcomeOf};
 ghost use Rattle.commits.specs.Codes.{lateRefusal, LateGiven};
 
-// The ranks of writes: all odd numbers.
-const WRITES: u64 = 0xAAAA_AAAA_AAAA_AAAA;
-
 // The commit's own number, as a set; none where it writes nothing.
-fn own_number(ranks: u64, me: usize) -> u64
-    requires { ⌜ me < 64 ⌝ }
-    ensures { λ r. ⌜ ((c : Commit) (values : List ℕ) → KeepsOperations c ranks values → IsSet r (λ t. (t ≡ me) × Writes c)) ⌝ }
+fn own_number(ranks: u64, n: usize, me: usize) -> u64
+    requires { ⌜ (n ≤ 16) × (me < 64) ⌝ }
+    ensures { λ r. ⌜ ((c : Commit) (values : List ℕ) → KeepsOperations c ranks values → ((k : ℕ) → T (writes c k) → k < n) → IsSet r (λ t. (t ≡ me) × Writes c)) ⌝ }
 {
-    if ranks & WRITES == 0 {
+    if state::keys_with(ranks, 1, n) == 0 {
         return 0;
     }
     sets::single(me)
@@ -53,7 +50,7 @@ fn own_only(fresh: &[u64], views: &mut [u64], seen: &mut [u64], client: usize, r
     }
 {
     views::masks::keep(views, 16 * client, fresh, n);
-    seen[client] = sets::union(seen[client], own_number(ranks, me));
+    seen[client] = sets::union(seen[client], own_number(ranks, n, me));
     Outcome::Taken
 }
 

@@ -21,10 +21,6 @@ use Rattle.state.specs.Places.{headPlace, packed, writerIn}
 use Rattle.state.specs.Keeps.{KeepsOperations}
 use Rattle.operations.specs.Given.{Given}
 
--- a test that fails does not hold
-pub false-T : (b : Bool) → b ≡ false → ¬ T b
-false-T b e t = rw e at t
-
 -- ---- two numbers in one word
 
 pub low-half : (low high : ℕ) → low < 2 ^ 32 → packed low high % 2 ^ 32 ≡ low

@@ -80,6 +80,14 @@ T-false false n = refl
 pub true-T : (b : Bool) → b ≡ true → T b
 true-T b e = subst T (sym e) tt
 
+pub false-T : (b : Bool) → b ≡ false → ¬ T b
+false-T b e t = subst T e t
+
+-- two tests that hold together are equal
+pub same-test : (a b : Bool) → (T a → T b) → (T b → T a) → a ≡ b
+same-test true b f g = sym (T-true b (f tt))
+same-test false b f g = sym (T-false b g)
+
 -- ---- tests of numbers
 
 pub eq-test : (m n : ℕ) → m ≡ n → T (eqb m n)

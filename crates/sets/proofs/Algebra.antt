@@ -10,17 +10,10 @@ use native.Mathlib.Decide.{decLt}
 use lib.Dec.{T, eqb, eqb→eq, ltb}
 use lib.Bits.{bitAnd, bitOr, differ, or-comm, or-lt, or-add-and, xor-lt, and-le-l, and-le-r, or-shifted-r}
 use lib.Pow.{pow-pos, pow-lt, mod-pow-add}
-use Rattle.search.proofs.Tests.{same, or-right, eq-test, and-is, not-is, stable, lt-is}
+use Rattle.search.proofs.Tests.{same, same-test, or-right, eq-test, and-is, not-is, stable, lt-is}
 use Rattle.sets.specs.Set.{Set, has, insert, single, union, without, below}
 use Rattle.sets.proofs.Digits.{digit, at-place, digit-and, digit-or, digit-xor}
 use Rattle.sets.proofs.Laws.{has-none, single-has, single-only, has-below, below-has, below-small}
-
--- two tests that hold together are equal
-same-test : (a b : Bool) → (T a → T b) → (T b → T a) → a ≡ b
-same-test true true f g = refl
-same-test true false f g = absurd (f tt)
-same-test false true f g = absurd (g tt)
-same-test false false f g = refl
 
 -- ---- what each operation holds
 
@@ -30,6 +23,11 @@ has-union a b i =
     ap (λ (x : ℕ). eqb x 1) (digit-or a b i)
     ∙ at-place (λ x y. eqb (max x y) 1 ≡ (eqb x 1 || eqb y 1)) refl refl refl refl a b i
 
+pub has-both : (a b i : ℕ) → has (bitAnd a b) i ≡ (has a i && has b i)
+has-both a b i =
+    ap (λ (x : ℕ). eqb x 1) (digit-and a b i)
+    ∙ at-place (λ x y. eqb (min x y) 1 ≡ (eqb x 1 && eqb y 1)) refl refl refl refl a b i
+
 pub has-without : (a b i : ℕ) → has (without a b) i ≡ (has a i && not (has b i))
 unfolding without
 has-without a b i =
@@ -37,6 +35,9 @@ has-without a b i =
     ∙ at-place (λ x y. eqb (differ x (min x y)) 1 ≡ (eqb x 1 && not (eqb y 1))) refl refl refl refl a b i
 
 -- the same of facts
+pub both-is : (a b i : ℕ) → T (has (bitAnd a b) i) ↔ (T (has a i) × T (has b i))
+both-is a b i = rw (has-both a b i) (and-is (has a i) (has b i) same same)
+
 pub without-is : (a b i : ℕ) → T (has (without a b) i) ↔ (T (has a i) × (¬ T (has b i)))
 without-is a b i = rw (has-without a b i) (and-is (has a i) (not (has b i)) same (not-is (has b i) same))
 

@@ -1,8 +1,7 @@
 -- Loops over the operations of one access. Assumes nothing.
-use Prim.Native.Nat.{ℕ, zero, suc, _+_, _*_, _/_, _%_, _^_, _≤_, _<_, min}
+use Prim.Native.Nat.{ℕ, zero, suc, _+_, _*_, _/_, _%_, _^_, _≤_, _<_}
 use mathlib.Core.Path.{_≡_, refl, sym, ap, _∙_, subst}
 use mathlib.Core.Bool.{Bool, true, false, _&&_, not}
-use mathlib.Core.Logic.{_↔_}
 use native.Mathlib.Omega.{arith}
 use native.Mathlib.Nat.{add-comm}
 use lib.Dec.{T, eqb, lit<}
@@ -10,11 +9,10 @@ use lib.Bits.{bitAnd, and-le-r}
 use lib.Pow.{shr-shr}
 use Rattle.search.specs.Search.{any}
 use Rattle.search.proofs.Search.{any-in}
-use Rattle.search.proofs.Tests.{eq-test, and-is, not-is, stable, same}
+use Rattle.search.proofs.Tests.{false-T, eq-test, and-is, not-is, stable, same}
 use Rattle.sets.specs.Set.{Set, has, single, below, without, lowest}
-use Rattle.sets.proofs.Digits.{at-place, digit-and}
 use Rattle.sets.proofs.Laws.{has-none, has-lt, has-below, below-has, below-word, has-lowest, lowest-least, single-only, single-has}
-use Rattle.sets.proofs.Algebra.{without-is, without-word}
+use Rattle.sets.proofs.Algebra.{both-is, without-is, without-word}
 use Rattle.state.specs.Accesses.{rank, Left}
 
 -- ---- one turn of the loop
@@ -63,11 +61,11 @@ turn-below h p e = next-key h p (ap (λ (x : ℕ). x / 2) e) .1
 pub left-none : {ranks : Set} {access n k left : ℕ} → Left ranks access n k left → left ≡ 0 → (j : ℕ) → k ≤ j → j < n → ¬ T (has ranks (rank access j))
 left-none h e j l m t = has-none (2 * j) (subst (λ (x : Set). T (has x (2 * j))) e (h .all j l m t))
 
--- ---- where the loop starts
+-- where something is left, a key has an operation
+pub left-some : {ranks : Set} {access n k left : ℕ} → Left ranks access n k left → ¬ (left ≡ 0) → (q : ℕ) × T (has ranks (rank access q))
+left-some {left = left} h n = let (q, _, _, _, t) = h .only (lowest left) (has-lowest left (omega arith) (h .word)) in (q, t)
 
--- a test that fails does not hold
-false-T : (b : Bool) → b ≡ false → ¬ T b
-false-T b e t = rw e at t
+-- ---- where the loop starts
 
 abbrev evens : Set
 evens = 0x5555555555555555
@@ -93,13 +91,6 @@ even-missing = refl
 even-there : (q : ℕ) → q < 32 → T (has evens (2 * q))
 even-there q l = stable (has evens (2 * q)) (λ n. false-T _ even-missing (any-in 32 (λ j. not (has evens (2 * j))) q l (not-is (has evens (2 * q)) same .1 n)))
 
-has-and : (a b i : ℕ) → has (bitAnd a b) i ≡ (has a i && has b i)
-has-and a b i = ap (λ (x : ℕ). eqb x 1) (digit-and a b i) ∙ at-place (λ x y. eqb (min x y) 1 ≡ (eqb x 1 && eqb y 1)) refl refl refl refl a b i
-
--- what both words hold
-both-hold : (a b i : ℕ) → T (has (bitAnd a b) i) ↔ (T (has a i) × T (has b i))
-both-hold a b i = subst (λ (x : Bool). T x ↔ (T (has a i) × T (has b i))) (sym (has-and a b i)) (and-is (has a i) (has b i) same same)
-
 shifted : (m a i : ℕ) → has (m / 2 ^ a) i ≡ has m (i + a)
 shifted m a i = ap (λ (x : ℕ). eqb (x % 2) 1) (shr-shr m a i) ∙ ap (has m) (add-comm a i)
 
@@ -111,8 +102,8 @@ rank-is (suc (suc a)) q l = absurd (omega arith)
 pub left-starts : (ranks access n : ℕ) → ranks < 2 ^ 64 → access < 2 → n ≤ 16 → {b : Set} → b ≡ below (2 * n) → Left ranks access n 0 (bitAnd (bitAnd (ranks / 2 ^ access) evens) b)
 left-starts ranks access n l a s e = subst (λ (x : ℕ). Left ranks access n 0 (bitAnd (bitAnd (ranks / 2 ^ access) evens) x)) (sym e) record {
   word = omega (arith, and-le-r (bitAnd (ranks / 2 ^ access) evens) (below (2 * n)), below-word (2 * n) (omega arith));
-  only = λ i t. let (y, b) = both-hold _ _ i .0 t in let (x, c) = both-hold _ _ i .0 y in
+  only = λ i t. let (y, b) = both-is _ _ i .0 t in let (x, c) = both-is _ _ i .0 y in
       let z : i ≡ 2 * (i / 2) = omega (arith, odd-missing i c) in
       (i / 2, z, omega arith, omega (arith, below-has (2 * n) i b), subst (λ (j : ℕ). T (has ranks j)) (ap (λ (j : ℕ). j + access) z ∙ sym (rank-is access (i / 2) a)) (subst T (shifted ranks access i) x));
-  all = λ q _ m t. both-hold _ _ (2 * q) .1 (both-hold _ _ (2 * q) .1 (subst T (sym (shifted ranks access (2 * q))) (subst (λ (j : ℕ). T (has ranks j)) (rank-is access q a) t), even-there q (omega arith)), has-below (2 * n) (2 * q) (omega arith));
+  all = λ q _ m t. both-is _ _ (2 * q) .1 (both-is _ _ (2 * q) .1 (subst T (sym (shifted ranks access (2 * q))) (subst (λ (j : ℕ). T (has ranks j)) (rank-is access q a) t), even-there q (omega arith)), has-below (2 * n) (2 * q) (omega arith));
 }

@@ -17,7 +17,7 @@ use lib.Seq.{getD-set-same, getD-set-other}
 use mir.Facts.{and-yes}
 use borrow.Author.Tests.{eq-eqb, ne-eqb}
 use Rattle.search.specs.Choose.{choose, when, orElse}
-use Rattle.search.proofs.Tests.{T-true, T-false, true-T, eq-test, when-none}
+use Rattle.search.proofs.Tests.{T-true, T-false, true-T, eq-test, when-none, same-test}
 use Rattle.sets.specs.Set.{has, insert}
 use Rattle.sets.proofs.Laws.{has-none, has-insert, insert-has, insert-self}
 use Rattle.endian.specs.Endian.{leAt}
@@ -54,10 +54,6 @@ or-else-none : (x : Option ℕ) → orElse x none ≡ x
 unfolding orElse
 or-else-none (some v) = refl
 or-else-none none = refl
-
-same-test : (b c : Bool) → (T b → T c) → (T c → T b) → b ≡ c
-same-test true c f g = sym (T-true c (f tt))
-same-test false c f g = sym (T-false c g)
 
 same-equality : (m n p q : ℕ) → (m ≡ n → p ≡ q) → (p ≡ q → m ≡ n) → eqb m n ≡ eqb p q
 same-equality m n p q f g = same-test _ _ (λ t. eq-test p q (f (eqb→eq m n t))) (λ t. eq-test m n (g (eqb→eq p q t)))

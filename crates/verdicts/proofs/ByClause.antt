@@ -11,7 +11,7 @@ use lib.Bits.{bitAnd}
 use Rattle.search.proofs.Tests.{both}
 use Rattle.sets.specs.Set.{Set, has, insert}
 use Rattle.sets.proofs.Laws.{has-none, insert-has, has-insert, insert-self}
-use Rattle.sets.proofs.Algebra.{empty-is}
+use Rattle.sets.proofs.Algebra.{empty-is, both-is}
 use Rattle.store.specs.Store.{CommitNumber, View, Store, Commit}
 use Rattle.growth.proofs.Views.{Lacking}
 use Rattle.growth.proofs.Clauses.{LacksOneOf, monotonic-writes-is, write-follows-reads-is, update-atomic-is, consistent-prefix-is, snapshot-isolation-is, serialisable-is}
@@ -24,7 +24,6 @@ use Rattle.verdicts.specs.declared.Wanted.{Wanted}
 use Rattle.verdicts.specs.Wants.{Lacks}
 use Rattle.verdicts.specs.AtHand.{AtHand}
 use Rattle.verdicts.specs.Verdicts.{FailingClauses}
-use Rattle.views.proofs.Words.{both-is}
 use Rattle.verdicts.proofs.FirstFailing.{same-clause, number-range}
 
 -- the other way round

@@ -13,13 +13,13 @@ use lib.Bits.{bitAnd}
 use Rattle.search.specs.Choose.{mapSome, orElse}
 use Rattle.search.proofs.Tests.{T?, some-none, and-left, and-right}
 use Rattle.sets.specs.Set.{Set, has, lowest}
+use Rattle.sets.proofs.Algebra.{both-is}
 use Rattle.sets.proofs.Laws.{has-none, insert-has, has-insert, insert-self, has-lowest, lowest-least}
 use Rattle.store.specs.Store.{View, Store, nextNumber, Commit}
 use Rattle.store.specs.Missing.{Place}
 use Rattle.levels.specs.Clause.{Clause, monotonicReads, readYourWrites, monotonicWrites, writesFollowReads, updateAtomic, consistentPrefix, snapshotIsolation, serialisability, clauseNumber, missingBy}
 use Rattle.levels.specs.Level.{SER, levels, clausesOf, Failure, failure, failsClauses}
 use Rattle.verdicts.specs.Verdicts.{levelAt, numbersOf, FailingClauses}
-use Rattle.views.proofs.Words.{both-is}
 
 -- ---- numbers of clauses
 

@@ -1,7 +1,7 @@
 -- Masks that hold, of each key, all versions up to some: what the code finds of them is what they hold and lack. Assumes nothing.
 use Prim.Native.Nat.{ℕ, _+_, _-_, _%_, _^_, _≤_, _<_}
 use mathlib.Core.Path.{_≡_, refl, sym, ap, _∙_, subst}
-use mathlib.Core.Bool.{Bool, true, false, _||_}
+use mathlib.Core.Bool.{true, false, _||_}
 use mathlib.Core.Logic.{_↔_}
 use mathlib.Core.Option.{none}
 use mathlib.Core.List.{List}
@@ -12,10 +12,10 @@ use lib.Dec.{T, eqb, eqb→eq}
 use lib.Bits.{bitAnd, and-comm}
 use lib.Pow.{pow-pos}
 use lib.ListN.{getD}
-use Rattle.search.proofs.Tests.{stable, true-T, T-false, or-left, or-right}
+use Rattle.search.proofs.Tests.{stable, true-T, T-false, false-T, same-test, or-left, or-right}
 use Rattle.sets.specs.Set.{Set, has, single, below, union, without, highest, lowest}
 use Rattle.sets.proofs.Laws.{has-none, has-large, has-below, below-has, has-lowest, has-highest, highest-most, single-only, single-has}
-use Rattle.sets.proofs.Algebra.{has-union, subset-is, same-sets, empty-is}
+use Rattle.sets.proofs.Algebra.{has-union, both-is, subset-is, same-sets, empty-is}
 use Rattle.sets.proofs.Words.{and-pred}
 use Rattle.dependencies.specs.History.{Holds}
 use Rattle.store.specs.Store.{Key, CommitNumber, View, Store, count, version}
@@ -31,11 +31,8 @@ use Rattle.views.specs.Viewed.{NewMasks}
 use Rattle.views.specs.Prefix.{Downward, Prefixes, Lacks}
 use Rattle.views.proofs.Tests.{has-as}
 use Rattle.views.proofs.Codes.{mask-holds}
-use Rattle.views.proofs.Words.{both-is, writer-in}
+use Rattle.views.proofs.Words.{writer-in}
 use Rattle.views.proofs.Grown.{exist, key-of}
-
-false-T : (b : Bool) → b ≡ false → ¬ T b
-false-T b e t = rw e at t
 
 -- ---- a mask that has no digit in common with the next number
 
@@ -45,12 +42,6 @@ below-downward n i j t l = has-below n j (let x : i < n = below-has n i t in ome
 -- the only number of a set whose rest is empty
 alone : (m : ℕ) → 0 < m → m < 2 ^ 64 → without m (single (lowest m)) ≡ 0 → m ≡ single (lowest m)
 alone m p l e = same-sets m (single (lowest m)) (λ i. same-test _ _ (subset-is m (single (lowest m)) .0 e i) (λ t. subst (λ (j : ℕ). T (has m j)) (sym (single-only (lowest m) i t)) (has-lowest m p l)))
-  where
-    same-test : (a b : Bool) → (T a → T b) → (T b → T a) → a ≡ b
-    same-test true true f g = refl
-    same-test true false f g = absurd (f tt)
-    same-test false true f g = absurd (g tt)
-    same-test false false f g = refl
 
 pub downward : (m : ℕ) → m < 2 ^ 64 → bitAnd m ((m + 1) % 2 ^ 64) ≡ 0 → Downward m
 downward m l e = go (decLt (m + 1) (2 ^ 64))

@@ -13,7 +13,7 @@ use lib.ListN.{getD}
 use Rattle.search.proofs.Tests.{both}
 use Rattle.sets.specs.Set.{Set, has, union}
 use Rattle.sets.proofs.Laws.{has-none}
-use Rattle.sets.proofs.Algebra.{without-is}
+use Rattle.sets.proofs.Algebra.{both-is, without-is}
 use Rattle.dependencies.specs.History.{Holds}
 use Rattle.store.specs.Store.{Key, CommitNumber, View, Store, count, version}
 use Rattle.store.specs.Missing.{missing}
@@ -31,7 +31,7 @@ use Rattle.views.specs.Gained.{GainedAt, Gains, LackingBelow}
 use Rattle.views.specs.Viewed.{NewMasks}
 use Rattle.views.proofs.Tests.{has-as}
 use Rattle.views.proofs.Codes.{mask-holds}
-use Rattle.views.proofs.Words.{both-is, writer-in}
+use Rattle.views.proofs.Words.{writer-in}
 use Rattle.views.proofs.Rows.{masks-row}
 use Rattle.views.proofs.Agree.{missing-agree}
 

@@ -12,22 +12,13 @@ use borrow.Author.Tests.{eq-eqb, ne-eqb}
 use Rattle.search.proofs.Tests.{same, and-is, not-is, eq-is}
 use Rattle.sets.specs.Set.{Set, has, lowest}
 use Rattle.sets.proofs.Laws.{has-lowest}
-use Rattle.sets.proofs.Digits.{digit-and, at-place}
-use Rattle.sets.proofs.Algebra.{empty-is}
+use Rattle.sets.proofs.Algebra.{both-is, empty-is}
 use Rattle.store.specs.Store.{View, Store, count, version}
 use Rattle.state.specs.Places.{headPlace, readersPlace, writerIn}
 use Rattle.views.specs.Words.{meets}
 use Rattle.views.specs.Rules.{StoreAndView, byWriter, byReader}
 
--- ---- what both sets hold
-
-pub has-both : (a b i : ℕ) → has (bitAnd a b) i ≡ (has a i && has b i)
-has-both a b i =
-    ap (λ (x : ℕ). eqb x 1) (digit-and a b i)
-    ∙ at-place (λ x y. eqb (min x y) 1 ≡ (eqb x 1 && eqb y 1)) refl refl refl refl a b i
-
-pub both-is : (a b i : ℕ) → T (has (bitAnd a b) i) ↔ (T (has a i) × T (has b i))
-both-is a b i = rw (has-both a b i) (and-is (has a i) (has b i) same same)
+-- ---- sets that have a number in common
 
 -- `a & b != 0`
 pub meets-yes : (a b : ℕ) → bitAnd a b ≢ 0 → T (meets a b)

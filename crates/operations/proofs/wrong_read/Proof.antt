@@ -4,12 +4,13 @@ use Prim.Native.Nat.{ℕ, _+_, _/_, _≤_, _<_}
 use mathlib.Core.Path.{ap, sym, _∙_}
 use native.Mathlib.Omega.{arith}
 use lib.Dec.{T}
+use Rattle.search.proofs.Tests.{false-T}
 use Rattle.store.specs.Store.{View, Store, Commit}
 use Rattle.store.specs.Refusal.{wrongAt}
 use Rattle.state.specs.Accesses.{Left}
 use Rattle.state.proofs.Accesses.{next-key, left-rest, left-none, turn-below}
 use Rattle.operations.specs.Given.{Given}
-use Rattle.operations.proofs.Reading.{false-T, wrong-skip, wrong-one, wrong-found, wrong-none}
+use Rattle.operations.proofs.Reading.{wrong-skip, wrong-one, wrong-found, wrong-none}
 use Rattle.operations.proofs.wrong_read.Statement.{statement}
 use Rattle.operations.proofs.wrong_read.Tie as tie
 

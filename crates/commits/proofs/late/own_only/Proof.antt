@@ -40,7 +40,7 @@ returns c = (
   λ g e values versions keys i h adds. own-not-refused g e values versions keys _ _ _ _ _ _ h adds i,
   λ g e values versions keys h adds number t.
       own-kept g e values versions keys _ _ _ _ _ _ h adds (omega arith) (omega arith) _ _ number
-      (c .before .own-number .ensures e values (h .operations)) (c .before .before .before .before .before .keep .ensures) (c .union .ensures),
+      (c .before .own-number .ensures e values (h .operations) (λ k w. omega (arith, h .made .fits .write-keys k w, h .keys-are))) (c .before .before .before .before .before .keep .ensures) (c .union .ensures),
 )
 
 pub own-only-spec : {M : Type 1} → statement M
