@@ -35,6 +35,7 @@ accepted-trace bytes t e = read (decode bytes) refl e
     meant r none m d q =
         let same : r ≡ t = cc in
         (d ∙ q, subst (λ (x : Trace). meaningless x ≡ none) same m)
+
     read : (x : Result Trace) → decode bytes ≡ x → onTaken x (λ r. unless (meaningless r) r) ≡ taken t → (decode bytes ≡ taken t) × (meaningless t ≡ none)
     read (refused r) d q = refused-taken q
     read (taken r) d q = meant r (meaningless r) refl d q

@@ -49,7 +49,7 @@ report t = record {
   verdicts = map (λ l. verdict l t) levels;
   records = length (t .events);
   commits = finalStore t .commits;
-  imageLength = length (image (finalStore t))
+  imageLength = length (image (finalStore t));
 }
 
 -- code 15: "image buffer shorter than the image", "15 last"

@@ -51,7 +51,7 @@ judges vs records commits image = taken (record { verdicts = vs; records = recor
 abbrev traceA : Row
 traceA = record {
   trace = record { keys = 1; clients = 1; events = [] };
-  answered = judges (accepted ∷ accepted ∷ accepted ∷ accepted ∷ accepted ∷ accepted ∷ accepted ∷ accepted ∷ accepted ∷ accepted ∷ []) 0 0 28
+  answered = judges (accepted ∷ accepted ∷ accepted ∷ accepted ∷ accepted ∷ accepted ∷ accepted ∷ accepted ∷ accepted ∷ accepted ∷ []) 0 0 28;
 }
 
 -- "B* Lost update, one key, two clients. Each reads 0 and writes 1 from {0}; views after {0,1} and {0,2}. UA, PSI, SI fail at record
@@ -61,12 +61,12 @@ traceB = record {
   trace = record {
     keys = 1;
     clients = 2;
-    events = commits 0 0 (reading 0 0 ∷ writing 0 1 ∷ []) (3 ∷ []) ∷ commits 1 0 (reading 0 0 ∷ writing 0 1 ∷ []) (5 ∷ []) ∷ []
+    events = commits 0 0 (reading 0 0 ∷ writing 0 1 ∷ []) (3 ∷ []) ∷ commits 1 0 (reading 0 0 ∷ writing 0 1 ∷ []) (5 ∷ []) ∷ [];
   };
   answered =
-    judges
-      ( accepted ∷ accepted ∷ accepted ∷ accepted ∷ accepted ∷ fails 2 2 updateAtomic ∷ fails 2 2 updateAtomic ∷ accepted
-      ∷ fails 2 2 updateAtomic ∷ fails 2 2 serialisability ∷ [] ) 2 2 76
+      judges
+      (accepted ∷ accepted ∷ accepted ∷ accepted ∷ accepted ∷ fails 2 2 updateAtomic ∷ fails 2 2 updateAtomic ∷ accepted
+      ∷ fails 2 2 updateAtomic ∷ fails 2 2 serialisability ∷ []) 2 2 76;
 }
 
 -- "C* Long fork: client 0 writes key 0; client 1 writes key 1; client 2 shifts to {0,1},{0} and reads 1 and 0; client 3 shifts to
@@ -78,18 +78,18 @@ traceC = record {
     keys = 2;
     clients = 4;
     events =
-      commits 0 0 (writing 0 1 ∷ []) (3 ∷ 1 ∷ [])
-      ∷ commits 1 0 (writing 1 1 ∷ []) (1 ∷ 3 ∷ [])
-      ∷ shifts 2 (3 ∷ 1 ∷ [])
-      ∷ commits 2 0 (reading 0 1 ∷ reading 1 0 ∷ []) (3 ∷ 1 ∷ [])
-      ∷ shifts 3 (1 ∷ 3 ∷ [])
-      ∷ commits 3 0 (reading 0 0 ∷ reading 1 1 ∷ []) (1 ∷ 3 ∷ [])
-      ∷ []
+        commits 0 0 (writing 0 1 ∷ []) (3 ∷ 1 ∷ [])
+        ∷ commits 1 0 (writing 1 1 ∷ []) (1 ∷ 3 ∷ [])
+        ∷ shifts 2 (3 ∷ 1 ∷ [])
+        ∷ commits 2 0 (reading 0 1 ∷ reading 1 0 ∷ []) (3 ∷ 1 ∷ [])
+        ∷ shifts 3 (1 ∷ 3 ∷ [])
+        ∷ commits 3 0 (reading 0 0 ∷ reading 1 1 ∷ []) (1 ∷ 3 ∷ [])
+        ∷ [];
   };
   answered =
-    judges
-      ( accepted ∷ accepted ∷ accepted ∷ accepted ∷ accepted ∷ accepted ∷ accepted ∷ fails 4 6 consistentPrefix
-      ∷ fails 4 6 snapshotIsolation ∷ fails 2 2 serialisability ∷ [] ) 6 4 112
+      judges
+      (accepted ∷ accepted ∷ accepted ∷ accepted ∷ accepted ∷ accepted ∷ accepted ∷ fails 4 6 consistentPrefix
+      ∷ fails 4 6 snapshotIsolation ∷ fails 2 2 serialisability ∷ []) 6 4 112;
 }
 
 -- "D* Write skew, one commit each: client 0 reads both keys as 0 and writes key 0, client 1 reads both as 0 and writes key 1; views
@@ -100,14 +100,14 @@ traceD = record {
     keys = 2;
     clients = 2;
     events =
-      commits 0 0 (reading 0 0 ∷ writing 0 1 ∷ reading 1 0 ∷ []) (3 ∷ 1 ∷ [])
-      ∷ commits 1 0 (reading 0 0 ∷ reading 1 0 ∷ writing 1 1 ∷ []) (1 ∷ 3 ∷ [])
-      ∷ []
+        commits 0 0 (reading 0 0 ∷ writing 0 1 ∷ reading 1 0 ∷ []) (3 ∷ 1 ∷ [])
+        ∷ commits 1 0 (reading 0 0 ∷ reading 1 0 ∷ writing 1 1 ∷ []) (1 ∷ 3 ∷ [])
+        ∷ [];
   };
   answered =
-    judges
-      ( accepted ∷ accepted ∷ accepted ∷ accepted ∷ accepted ∷ accepted ∷ accepted ∷ accepted ∷ accepted ∷ fails 2 2 serialisability ∷ [] )
-      2 2 96
+      judges
+      (accepted ∷ accepted ∷ accepted ∷ accepted ∷ accepted ∷ accepted ∷ accepted ∷ accepted ∷ accepted ∷ fails 2 2 serialisability ∷ [])
+      2 2 96;
 }
 
 -- "E* Client 0 writes key 0; client 1 shifts to {0,1}, reads 1, ends with {0}. MR, CC, PSI, CP, SI fail at record 3, clause 1; SER
@@ -117,12 +117,12 @@ traceE = record {
   trace = record {
     keys = 1;
     clients = 2;
-    events = commits 0 0 (writing 0 1 ∷ []) (3 ∷ []) ∷ shifts 1 (3 ∷ []) ∷ commits 1 0 (reading 0 1 ∷ []) (1 ∷ []) ∷ []
+    events = commits 0 0 (writing 0 1 ∷ []) (3 ∷ []) ∷ shifts 1 (3 ∷ []) ∷ commits 1 0 (reading 0 1 ∷ []) (1 ∷ []) ∷ [];
   };
   answered =
-    judges
-      ( fails 2 3 monotonicReads ∷ accepted ∷ accepted ∷ accepted ∷ fails 2 3 monotonicReads ∷ accepted ∷ fails 2 3 monotonicReads
-      ∷ fails 2 3 monotonicReads ∷ fails 2 3 monotonicReads ∷ accepted ∷ [] ) 3 2 60
+      judges
+      (fails 2 3 monotonicReads ∷ accepted ∷ accepted ∷ accepted ∷ fails 2 3 monotonicReads ∷ accepted ∷ fails 2 3 monotonicReads
+      ∷ fails 2 3 monotonicReads ∷ fails 2 3 monotonicReads ∷ accepted ∷ []) 3 2 60;
 }
 
 -- "F* Client 0 writes key 0, then key 1; client 2 shifts to {0},{0,1} and reads key 1. MW fails at record 4, key 0, version 1; WFR
@@ -133,16 +133,16 @@ traceF = record {
     keys = 2;
     clients = 3;
     events =
-      commits 0 0 (writing 0 1 ∷ []) (3 ∷ 1 ∷ [])
-      ∷ commits 0 1 (writing 1 1 ∷ []) (3 ∷ 3 ∷ [])
-      ∷ shifts 2 (1 ∷ 3 ∷ [])
-      ∷ commits 2 0 (reading 1 1 ∷ []) (1 ∷ 3 ∷ [])
-      ∷ []
+        commits 0 0 (writing 0 1 ∷ []) (3 ∷ 1 ∷ [])
+        ∷ commits 0 1 (writing 1 1 ∷ []) (3 ∷ 3 ∷ [])
+        ∷ shifts 2 (1 ∷ 3 ∷ [])
+        ∷ commits 2 0 (reading 1 1 ∷ []) (1 ∷ 3 ∷ [])
+        ∷ [];
   };
   answered =
-    judges
-      ( accepted ∷ fails 3 4 monotonicWrites ∷ accepted ∷ accepted ∷ fails 3 4 monotonicWrites ∷ accepted ∷ fails 3 4 monotonicWrites
-      ∷ fails 3 4 consistentPrefix ∷ fails 3 4 snapshotIsolation ∷ fails 3 4 serialisability ∷ [] ) 4 3 104
+      judges
+      (accepted ∷ fails 3 4 monotonicWrites ∷ accepted ∷ accepted ∷ fails 3 4 monotonicWrites ∷ accepted ∷ fails 3 4 monotonicWrites
+      ∷ fails 3 4 consistentPrefix ∷ fails 3 4 snapshotIsolation ∷ fails 3 4 serialisability ∷ []) 4 3 104;
 }
 
 -- "G* Client 0 writes key 0; client 1 shifts to {0,1},{0}, then in one commit reads key 0 and writes key 1; client 2 shifts to
@@ -153,17 +153,17 @@ traceG = record {
     keys = 2;
     clients = 3;
     events =
-      commits 0 0 (writing 0 1 ∷ []) (3 ∷ 1 ∷ [])
-      ∷ shifts 1 (3 ∷ 1 ∷ [])
-      ∷ commits 1 0 (reading 0 1 ∷ writing 1 1 ∷ []) (3 ∷ 3 ∷ [])
-      ∷ shifts 2 (1 ∷ 3 ∷ [])
-      ∷ commits 2 0 (reading 1 1 ∷ []) (1 ∷ 3 ∷ [])
-      ∷ []
+        commits 0 0 (writing 0 1 ∷ []) (3 ∷ 1 ∷ [])
+        ∷ shifts 1 (3 ∷ 1 ∷ [])
+        ∷ commits 1 0 (reading 0 1 ∷ writing 1 1 ∷ []) (3 ∷ 3 ∷ [])
+        ∷ shifts 2 (1 ∷ 3 ∷ [])
+        ∷ commits 2 0 (reading 1 1 ∷ []) (1 ∷ 3 ∷ [])
+        ∷ [];
   };
   answered =
-    judges
-      ( accepted ∷ accepted ∷ accepted ∷ fails 3 5 writesFollowReads ∷ fails 3 5 writesFollowReads ∷ accepted ∷ fails 3 5 writesFollowReads
-      ∷ fails 3 5 consistentPrefix ∷ fails 3 5 snapshotIsolation ∷ fails 3 5 serialisability ∷ [] ) 5 3 104
+      judges
+      (accepted ∷ accepted ∷ accepted ∷ fails 3 5 writesFollowReads ∷ fails 3 5 writesFollowReads ∷ accepted ∷ fails 3 5 writesFollowReads
+      ∷ fails 3 5 consistentPrefix ∷ fails 3 5 snapshotIsolation ∷ fails 3 5 serialisability ∷ []) 5 3 104;
 }
 
 -- "H* One commit writes two keys; another client shifts to {0,1},{0}: code 11, record 2, key 1, version 1."
@@ -172,9 +172,9 @@ traceH = record {
   trace = record {
     keys = 2;
     clients = 2;
-    events = commits 0 0 (writing 0 1 ∷ writing 1 1 ∷ []) (3 ∷ 3 ∷ []) ∷ shifts 1 (3 ∷ 1 ∷ []) ∷ []
+    events = commits 0 0 (writing 0 1 ∷ writing 1 1 ∷ []) (3 ∷ 3 ∷ []) ∷ shifts 1 (3 ∷ 1 ∷ []) ∷ [];
   };
-  answered = refused (record { code = 11; atRecord = 2; key = 1; version = 1 })
+  answered = refused (record { code = 11; atRecord = 2; key = 1; version = 1 });
 }
 
 abbrev pub table : List Row

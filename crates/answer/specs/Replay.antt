@@ -21,7 +21,7 @@ fullCommit g c = record {
   client = c .client;
   session = c .session;
   operations = c .operations;
-  viewAfter = fullView (storeAfter (step g (fullShift g c)) c)
+  viewAfter = fullView (storeAfter (step g (fullShift g c)) c);
 }
 
 -- the configuration after the two records of a commit's replay

@@ -32,7 +32,7 @@ pub masks-read : (file : List ℕ) (masks n : ℕ) (fresh : List ℕ) → length
 unfolding viewAt
 masks-read file masks n fresh long same = record {
   room = long;
-  masks = λ k l. same k l ∙ sym (choose-yes (ltb k n) (leAt file (masks + 8 * k) 8) 0 (lt→ltb k n l))
+  masks = λ k l. same k l ∙ sym (choose-yes (ltb k n) (leAt file (masks + 8 * k) 8) 0 (lt→ltb k n l));
 }
 
 -- ---- values
@@ -75,7 +75,7 @@ module _ (os : List Operation) (keys : ℕ) (rise : Rise keys 0 os) (ranks : Set
     room = long;
     reads = λ k. ap (λ (o : List Operation). valueOf read o k) same ∙ sorted read k ∙ ap (λ (x : ℕ). when (has ranks x) (getD after x 0)) (add-zero (2 * k));
     writes = λ k. ap (λ (o : List Operation). valueOf write o k) same ∙ sorted write k;
-    value-fits = values-fit small
+    value-fits = values-fit small;
   }
 
 -- what is given where the commit is first tested
@@ -93,9 +93,9 @@ early-given g c clients n versions keys views seen sessions commits links values
         room-left = r .room-left;
         in-versions = r .keeps .in-versions;
         row = λ k l. r .keeps .in-views .rows (c .client) b k (let e = r .keys-are in omega arith);
-        operations = o
+        operations = o;
       };
       in-sessions = r .keeps .in-sessions;
       client-is = refl;
-      session-is = refl
+      session-is = refl;
     }

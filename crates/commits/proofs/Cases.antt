@@ -54,15 +54,18 @@ old-is s c sessions h k b = both (both found same) ((k .bar (c .client) b (c .se
   where
     Above : ℕ → Type 0
     Above t = (Appears s t × (0 < t)) × ((s .clientOf t ≡ c .client) × (c .session ≤ s .sessionOf t))
+
     found : T (any (nextNumber s) (notAbove s c)) ↔ ((t : ℕ) × (t < nextNumber s) × Above t)
     found = any-is (nextNumber s) (notAbove s c) (λ t.
         and-is (stored s t && ltb 0 t) (eqb (s .clientOf t) (c .client) && leb (c .session) (s .sessionOf t))
-          (and-is (stored s t) (ltb 0 t) (stored-is s h t) (lt-is 0 t))
-          (and-is (eqb (s .clientOf t) (c .client)) (leb (c .session) (s .sessionOf t)) (eq-is _ _) (le-is _ _)))
+        (and-is (stored s t) (ltb 0 t) (stored-is s h t) (lt-is 0 t))
+        (and-is (eqb (s .clientOf t) (c .client)) (leb (c .session) (s .sessionOf t)) (eq-is _ _) (le-is _ _)))
+
     same : ((t : ℕ) × (t < nextNumber s) × Above t) ↔ ((t : ℕ) × CommitOf s (c .client) t × (c .session ≤ s .sessionOf t))
-    same =
-        ( λ (t, l, ((a, p), (e, q))). (t, (appears-stored s t .0 a, p, e), q)
-        , λ (t, (a, p, e), q). let x = appears-stored s t .1 a in (t, appears-lt s h t x, ((x, p), (e, q))) )
+    same = (
+      λ (t, l, ((a, p), (e, q))). (t, (appears-stored s t .0 a, p, e), q),
+      λ (t, (a, p, e), q). let x = appears-stored s t .1 a in (t, appears-lt s h t x, ((x, p), (e, q))),
+    )
 
 -- ---- before the commit is made
 
@@ -134,13 +137,13 @@ module _ (g : Configuration) (c : Commit) (values versions keys fresh views seen
       few = omega (arith, l .room-left, number-after (g .store) (viewBefore g c) c (l .made));
       in-versions = l .in-versions;
       in-keys = l .in-keys;
-      in-masks = row
+      in-masks = row;
     };
     ordered = ordered-commit (g .store) (viewBefore g c) c (l .made) (l .ordered);
     view = view-of-grown-store (g .store) (viewBefore g c) c (l .made .sound) (viewBefore g c) (l .made .view);
     seen-is = isSet-as _ (λ t. let x = holds-kept (g .store) (viewBefore g c) c (l .made) (viewBefore g c) (l .made .view) t in (x .1, x .0)) late-holds;
     in-fresh = l .in-fresh;
-    fits = subst (λ (k : ℕ). FitsView k (c .viewAfter)) (l .keys-are) (l .made .fits .after)
+    fits = subst (λ (k : ℕ). FitsView k (c .viewAfter)) (l .keys-are) (l .made .fits .after);
   }
     where
       row : (k : ℕ) → k < n → getD views (maxKeys * client + k) 0 ≡ viewBefore g c k
@@ -153,7 +156,7 @@ module _ (g : Configuration) (c : Commit) (values versions keys fresh views seen
       let own : c .client < maxClients = let e = l .client-is in omega arith in
       subst (λ (d : ℕ). KeepsViews (step g (commit c)) views′ (set seen d m)) (l .client-is)
       (commit-replaces g c n (l .sound) (l .made) few (l .keys-are) own views views′ seen fresh m (l .in-views) (l .in-fresh)
-        (subst (λ (d : ℕ). Kept fresh (maxKeys * d) n views views′) (sym (l .client-is)) k) s)
+      (subst (λ (d : ℕ). Kept fresh (maxKeys * d) n views views′) (sym (l .client-is)) k) s)
 
 -- the bar as the code reads it
 module _ (s : Store) (u : View) (c : Commit) (sessions versions views values : List ℕ) (client session : ℕ) (ranks : Set) (n : ℕ)

@@ -58,7 +58,7 @@ module _ (g : Configuration) (c : Commit) (clients n : ℕ) (versions keys views
   -- what the test of the view after says
   pub plain-is : (plain : Bool)
       → ((s : Store) (u : View) (k : Commit) (os : List ℕ) → Made s u k → s .commits < maxCommits → s .keys ≡ n → KeepsKeys s keys → RowAt n views (maxKeys * client) u
-          → KeepsMasks n (k .viewAfter) fresh → KeepsOperations k ranks os → T plain ↔ AddsOwn s u k)
+      → KeepsMasks n (k .viewAfter) fresh → KeepsOperations k ranks os → T plain ↔ AddsOwn s u k)
       → T plain → AddsOwn (g .store) (viewBefore g c) c
   plain-is plain says = says (g .store) (viewBefore g c) c values made (let x = r .room-left in omega arith) (r .keys-are) (r .keeps .in-keys) row f o .0
 
@@ -72,7 +72,7 @@ module _ (g : Configuration) (c : Commit) (clients n : ℕ) (versions keys views
       few = let x = r .room-left in omega arith;
       in-versions = r .keeps .in-versions;
       in-keys = r .keeps .in-keys;
-      in-masks = row
+      in-masks = row;
     };
     view = r .sound .views (c .client);
     sound-after = sound-after (g .store) (viewBefore g c) c made;
@@ -82,7 +82,7 @@ module _ (g : Configuration) (c : Commit) (clients n : ℕ) (versions keys views
     holds = holds;
     operations = o;
     masks = f;
-    adds-own = adds
+    adds-own = adds;
   }
 
   -- what the making of the commit is given
@@ -97,7 +97,7 @@ module _ (g : Configuration) (c : Commit) (clients n : ℕ) (versions keys views
     in-keys = r .keeps .in-keys;
     row = row;
     in-sessions = r .keeps .in-sessions;
-    operations = o
+    operations = o;
   }
 
   module _ (versions′ keys′ sessions′ commits′ links′ : List ℕ) (k : MadeIn (storeAfter g c) versions′ keys′ sessions′ commits′ links′) where
@@ -114,7 +114,7 @@ module _ (g : Configuration) (c : Commit) (clients n : ℕ) (versions keys views
       in-versions = k .in-versions;
       in-keys = k .in-keys;
       in-fresh = f;
-      in-views = r .keeps .in-views
+      in-views = r .keeps .in-views;
     }
 
     -- the arrays after it
@@ -126,7 +126,7 @@ module _ (g : Configuration) (c : Commit) (clients n : ℕ) (versions keys views
       in-views = v;
       in-sessions = k .in-sessions;
       in-commits = k .in-commits;
-      in-links = k .in-links
+      in-links = k .in-links;
     }
 
 -- the failures of a commit, as the run asks for them

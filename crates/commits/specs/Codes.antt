@@ -23,10 +23,10 @@ earlyRefusal i s u c = firstSome (when (oldNumber s c) (refuse 9 i) ∷ mapSome 
 unfoldable pub lateRefusal : ℕ → Configuration → Commit → Option Refusal
 lateRefusal i g c =
     firstSome
-      ( mapSome (refuseKey 10 i) (badMask (storeAfter g c) (c .viewAfter))
-      ∷ mapSome (refusePlace 11 i) (halfHeld (storeAfter g c) (c .viewAfter))
-      ∷ mapSome (refuseKey 14 i) (stray (g .store) (viewBefore g c) c)
-      ∷ [] )
+    (mapSome (refuseKey 10 i) (badMask (storeAfter g c) (c .viewAfter))
+    ∷ mapSome (refusePlace 11 i) (halfHeld (storeAfter g c) (c .viewAfter))
+    ∷ mapSome (refuseKey 14 i) (stray (g .store) (viewBefore g c) c)
+    ∷ [])
 
 -- before the commit is made
 pub record EarlyGiven (s : Store) (u : View) (c : Commit) (sessions versions views values : List ℕ) (client session : ℕ) (ranks : Set) (n : ℕ) : Type 0 where

@@ -28,7 +28,7 @@ commitIn file at n = record {
   client = at .client;
   session = at .session;
   operations = operationsAt file (at .operations) (at .count);
-  viewAfter = viewAt file (at .masks) n
+  viewAfter = viewAt file (at .masks) n;
 }
 
 -- a commit on a configuration that the arrays keep

@@ -20,13 +20,13 @@ Grow views views′ = (d k i : ℕ) → views d k i → views′ d k i
 pub owned-opening : (H : History) (views : ℕ → View) → Opening H → Owned H views
 owned-opening H views o = record {
   writes-held = λ a k i p w. let e : a ≡ 0 = o .only-first a k i w .0 in absurd (omega arith);
-  reads-held = λ a k i p r. absurd (o .no-readers a k i r)
+  reads-held = λ a k i p r. absurd (o .no-readers a k i r);
 }
 
 pub owned-shift : (H : History) (views views′ : ℕ → View) → Grow views views′ → Owned H views → Owned H views′
 owned-shift H views views′ grow o = record {
   writes-held = λ a k i p w. grow _ k i (o .writes-held a k i p w);
-  reads-held = λ a k i p r. grow _ k i (o .reads-held a k i p r)
+  reads-held = λ a k i p r. grow _ k i (o .reads-held a k i p r);
 }
 
 -- a commit t by client c
@@ -34,7 +34,7 @@ module _ (H H′ : History) (views : ℕ → View) (t c : ℕ) (is-client : H′
   pub owned-owns : Owns H H′ (views c) t
   owned-owns = record {
     own-writes = λ a s k i w. subst (λ (d : ℕ). views d k i) (s .2 ∙ is-client) (o .writes-held a k i (s .1) w);
-    own-reads = λ a s k i r. subst (λ (d : ℕ). views d k i) (s .2 ∙ is-client) (o .reads-held a k i (s .1) r)
+    own-reads = λ a s k i r. subst (λ (d : ℕ). views d k i) (s .2 ∙ is-client) (o .reads-held a k i (s .1) r);
   }
 
   module _ (writes : ℕ → Type 0) (g : Grown H H′ (views c) t writes) (views′ : ℕ → View) (grow : Grow views views′) where
@@ -49,7 +49,7 @@ module _ (H H′ : History) (views : ℕ → View) (t c : ℕ) (is-client : H′
     pub owned-commit : ((k i : ℕ) → H′ .wrote t k i → views′ c k i) → Owned H′ views′
     owned-commit own = record {
       writes-held = λ a k i p w. write a k i p w (g .written-after a k i w);
-      reads-held = λ a k i p r. read a k i p (g .read-after a k i r)
+      reads-held = λ a k i p r. read a k i p (g .read-after a k i r);
     }
       where
         write : (a k i : ℕ) → 0 < a → H′ .wrote a k i → H .wrote a k i ⊎ OwnWrite H writes t a k i → views′ (H′ .clientOf a) k i

@@ -27,7 +27,7 @@ refused-answer : (bytes buffer : List ℕ) (r : Refusal) → accept bytes ≡ re
 unfolding toldAnswer answer onTaken bufferAfter
 refused-answer bytes buffer r e = record {
   said = ap (λ (x : Result Trace). onTaken (onTaken x (judged (length buffer))) (λ q. taken (judgedOf q))) e;
-  drawn = ap (bufferAfter buffer) e
+  drawn = ap (bufferAfter buffer) e;
 }
 
 -- its form is wrong
@@ -68,7 +68,7 @@ module _ (bytes buffer : List ℕ) (t : Trace) (e : accept bytes ≡ taken t) wh
   unfolding judged onTaken
   short-answer l = record {
     said = said-by ∙ ap (λ (x : Result Report). onTaken x (λ q. taken (judgedOf q))) (need-no (leb size (length buffer)) (refused (refuse 15 0)) (taken (report t)) short);
-    drawn = drawn-by ∙ choose-no (leb size (length buffer)) _ _ short
+    drawn = drawn-by ∙ choose-no (leb size (length buffer)) _ _ short;
   }
     where
       short : T (not (leb size (length buffer)))
@@ -79,7 +79,7 @@ module _ (bytes buffer : List ℕ) (t : Trace) (e : accept bytes ≡ taken t) wh
   unfolding judged onTaken
   judged-answer l = record {
     said = said-by ∙ ap (λ (x : Result Report). onTaken x (λ q. taken (judgedOf q))) (need-yes (leb size (length buffer)) (refused (refuse 15 0)) (taken (report t)) long);
-    drawn = drawn-by ∙ choose-yes (leb size (length buffer)) _ _ long
+    drawn = drawn-by ∙ choose-yes (leb size (length buffer)) _ _ long;
   }
     where
       long : T (leb size (length buffer))

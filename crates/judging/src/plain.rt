@@ -27,7 +27,12 @@ fn put_verdict(out: &mut [u64], at: usize, v: Verdict)
 {
     match v {
         Verdict::Accepted => put_four(out, at, 0, 0, 0, 0),
-        Verdict::Refused { record, clause, key, version } => put_four(
+        Verdict::Refused {
+            record,
+            clause,
+            key,
+            version,
+        } => put_four(
             out,
             at,
             clause as u64,

@@ -49,7 +49,17 @@ pub fn meaning(file: &[u8], h: Header, buffer: &mut [u8]) -> Answer
         &mut fresh,
     );
     match ran {
-        Ran::Refused { code, record, key, version } => Answer::Refused { code, record, key, version },
+        Ran::Refused {
+            code,
+            record,
+            key,
+            version,
+        } => Answer::Refused {
+            code,
+            record,
+            key,
+            version,
+        },
         Ran::Done { commits: count } => ending::finish(
             buffer,
             &versions,

@@ -42,31 +42,38 @@ module _ (s : Store) (h : SoundStore s) (u : View) where
   -- clauses 3, 6 and 7, for any links
   leading-is : {R : ℕ → ℕ → Type 0} (r : Relation) → Means r R → (missing s (leadingTo s u r) u ≡ none) ↔ Closed R (history s) (held u)
   unfolding leadingTo
-  leading-is {R} r m =
-      ( λ e a b hb p k i w. nothing .0 e k i (h .only-keys k i (w .0)) (w .0) (wanted k i .1 (b, h .writers b (hb .0) (hb .1) (hb .3), (hb, subst (λ (x : ℕ). R x b) (sym (w .1)) p)))
-      , λ f. nothing .1 (λ k i l n x. let y = wanted k i .0 x in f (version s k i .writer) (y .0) (y .2 .0) (y .2 .1) k i (n, refl)) )
+  leading-is {R} r m = (
+    λ e a b hb p k i w. nothing .0 e k i (h .only-keys k i (w .0)) (w .0) (wanted k i .1 (b, h .writers b (hb .0) (hb .1) (hb .3), (hb, subst (λ (x : ℕ). R x b) (sym (w .1)) p))),
+    λ f. nothing .1 (λ k i l n x. let y = wanted k i .0 x in f (version s k i .writer) (y .0) (y .2 .0) (y .2 .1) k i (n, refl)),
+  )
     where
       nothing : (missing s (leadingTo s u r) u ≡ none) ↔ ((k i : ℕ) → k < s .keys → i < count s k → T (leadingTo s u r k i) → T (has (u k) i))
       nothing = missing-none s (leadingTo s u r) u
+
       wanted : (k i : ℕ) → T (leadingTo s u r k i) ↔ ((t : CommitNumber) × (t < nextNumber s) × (Holds (history s) (held u) t × R (version s k i .writer) t))
       wanted k i = any-is (nextNumber s) _ (λ t. and-is (holds s u t) _ (holds-means s h u t) (m (version s k i .writer) t))
 
   read-before-is : (missing s (readBefore s u) u ≡ none) ↔ WriteFollowsReads (history s) (held u)
   unfolding readBefore
-  read-before-is =
-      ( λ e b hb. (λ k i r. at e k i (r .0) b hb (inl (r .1)), λ a k i o r. at e k i (r .0) b hb (inr (a, h .readers a k i r, (o, r .1))))
-      , λ f. nothing .1 (λ k i l n x. let y = wanted k i .0 x in back f k i n (y .0) (y .2 .0) (y .2 .1)) )
+  read-before-is = (
+    λ e b hb. (λ k i r. at e k i (r .0) b hb (inl (r .1)), λ a k i o r. at e k i (r .0) b hb (inr (a, h .readers a k i r, (o, r .1)))),
+    λ f. nothing .1 (λ k i l n x. let y = wanted k i .0 x in back f k i n (y .0) (y .2 .0) (y .2 .1)),
+  )
     where
       Reader : ℕ → ℕ → ℕ → Type 0
       Reader k i b = T (hasRead s b k i) ⊎ ((a : CommitNumber) × (a < nextNumber s) × (D.SO (history s) a b × T (hasRead s a k i)))
+
       nothing : (missing s (readBefore s u) u ≡ none) ↔ ((k i : ℕ) → k < s .keys → i < count s k → T (readBefore s u k i) → T (has (u k) i))
       nothing = missing-none s (readBefore s u) u
+
       wanted : (k i : ℕ) → T (readBefore s u k i) ↔ ((b : CommitNumber) × (b < nextNumber s) × (Holds (history s) (held u) b × Reader k i b))
       wanted k i =
           any-is (nextNumber s) _ (λ b. and-is (holds s u b) _ (holds-means s h u b)
-            (or-is (hasRead s b k i) _ same (any-is (nextNumber s) _ (λ a. and-is (SO s a b) (hasRead s a k i) (so-means s h a b) same))))
+          (or-is (hasRead s b k i) _ same (any-is (nextNumber s) _ (λ a. and-is (SO s a b) (hasRead s a k i) (so-means s h a b) same))))
+
       at : missing s (readBefore s u) u ≡ none → (k i : ℕ) → i < count s k → (b : CommitNumber) → Holds (history s) (held u) b → Reader k i b → held u k i
       at e k i l b hb x = nothing .0 e k i (h .only-keys k i l) l (wanted k i .1 (b, h .writers b (hb .0) (hb .1) (hb .3), (hb, x)))
+
       back : WriteFollowsReads (history s) (held u) → (k i : ℕ) → i < count s k → (b : CommitNumber) → Holds (history s) (held u) b → Reader k i b → held u k i
       back f k i l b hb (inl x) = f b hb .0 k i (l, x)
       back f k i l b hb (inr (a, n, (o, x))) = f b hb .1 a k i o (l, x)
@@ -75,22 +82,26 @@ module _ (s : Store) (h : SoundStore s) (u : View) (v : IsView s u) (c : Commit)
   pub clause-is : (x : Clause) → (missingBy s u c x ≡ none) ↔ Says s u c x
   unfolding missingBy wants choose
   clause-is monotonicReads =
-      let m = missing-none (update s u c) (allOf u) (c .viewAfter) in
-      ( λ e k i b. let l : i < count (update s u c) k = let l′ : i < count s k = v .exist k i b in omega (arith, count-update s u c k) in m .0 e k i (h′ .only-keys k i l) l b
-      , λ f. m .1 (λ k i l n b. f k i b) )
+      let m = missing-none (update s u c) (allOf u) (c .viewAfter) in (
+        λ e k i b. let l : i < count (update s u c) k = let l′ : i < count s k = v .exist k i b in omega (arith, count-update s u c k) in m .0 e k i (h′ .only-keys k i l) l b,
+        λ f. m .1 (λ k i l n b. f k i b),
+      )
   clause-is readYourWrites =
-      let m = missing-none (update s u c) (wrote (update s u c) (nextNumber s)) (c .viewAfter) in
-      ( λ e k i w. m .0 e k i (h′ .only-keys k i (w .0)) (w .0) (eq-is _ (nextNumber s) .1 (w .1))
-      , λ f. m .1 (λ k i l n w. f k i (n, eq-is _ (nextNumber s) .0 w)) )
+      let m = missing-none (update s u c) (wrote (update s u c) (nextNumber s)) (c .viewAfter) in (
+        λ e k i w. m .0 e k i (h′ .only-keys k i (w .0)) (w .0) (eq-is _ (nextNumber s) .1 (w .1)),
+        λ f. m .1 (λ k i l n w. f k i (n, eq-is _ (nextNumber s) .0 w)),
+      )
   clause-is monotonicWrites = leading-is s h u (SO s) (so-means s h)
   clause-is writesFollowReads = read-before-is s h u
   clause-is updateAtomic =
-      let m = missing-none s (λ k i. writes c k) u in
-      ( λ e a k i w x. m .0 e k i (h .only-keys k i (x .0)) (x .0) w
-      , λ f. m .1 (λ k i l n w. f (version s k i .writer) k i w (n, refl)) )
+      let m = missing-none s (λ k i. writes c k) u in (
+        λ e a k i w x. m .0 e k i (h .only-keys k i (x .0)) (x .0) w,
+        λ f. m .1 (λ k i l n w. f (version s k i .writer) k i w (n, refl)),
+      )
   clause-is consistentPrefix = leading-is s h u (oneOrMore s (prefixLinks s)) (prefix-paths s h)
   clause-is snapshotIsolation = leading-is s h u (oneOrMore s (snapshotLinks s)) (snapshot-paths s h)
   clause-is serialisability =
-      let m = missing-none s (λ k i. true) u in
-      ( λ e a k i x. m .0 e k i (h .only-keys k i (x .0)) (x .0) tt
-      , λ f. m .1 (λ k i l n w. f (version s k i .writer) k i (n, refl)) )
+      let m = missing-none s (λ k i. true) u in (
+        λ e a k i x. m .0 e k i (h .only-keys k i (x .0)) (x .0) tt,
+        λ f. m .1 (λ k i l n w. f (version s k i .writer) k i (n, refl)),
+      )

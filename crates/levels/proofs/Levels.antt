@@ -44,6 +44,7 @@ fails-number n s u c (x ∷ xs) f e = go (missingBy s u c x) (fails-number n s u
   where
     some-inj : {A : Type 0} {a b : A} → _≡_ {A = Option A} (some a) (some b) → a ≡ b
     some-inj q = cc
+
     go : (o : Option Place) → (failsClauses n s u c xs ≡ some f → f .commit ≡ nextNumber s)
         → orElse (mapSome (failure (nextNumber s) n x) o) (failsClauses n s u c xs) ≡ some f → f .commit ≡ nextNumber s
     go none ih q = ih q

@@ -31,7 +31,7 @@ module _ (s : Store) (u : View) (c : Commit) (versions keys views sessions value
     room-left = g .room-left;
     in-versions = g .in-versions;
     row = g .row;
-    operations = g .operations
+    operations = g .operations;
   }
 
   -- what SO leads from: the commits of the client, where there is an operation
@@ -39,5 +39,5 @@ module _ (s : Store) (u : View) (c : Commit) (versions keys views sessions value
   led-before b w = choose-ind (λ (m : ℕ). IsSet m (FromSession s c)) (eqb ranks 0) 0 (getD sessions client 0)
       (λ e. isSet-none (λ t x. idle-ranks c ranks values (g .operations) (eqb→eq ranks 0 e) (x .0)))
       (λ e.
-          let o = busy-ranks c ranks values (g .operations) w (λ q. T-not (eqb ranks 0) e (eq-test ranks 0 q)) in
-          isSet-as _ (λ t. (λ x. (o, x), λ x. x .1)) (subst (λ (d : ℕ). IsSet (getD sessions client 0) (CommitOf s d)) (sym (g .client-is)) (g .in-sessions .commits-of client b)))
+      let o = busy-ranks c ranks values (g .operations) w (λ q. T-not (eqb ranks 0) e (eq-test ranks 0 q)) in
+      isSet-as _ (λ t. (λ x. (o, x), λ x. x .1)) (subst (λ (d : ℕ). IsSet (getD sessions client 0) (CommitOf s d)) (sym (g .client-is)) (g .in-sessions .commits-of client b)))

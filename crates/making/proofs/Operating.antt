@@ -43,10 +43,13 @@ module _ (c : Commit) (ranks : Set) (values : List ℕ) (o : KeepsOperations c r
           above : Dec (0 < ranks) → 0 < ranks
           above (yes x) = x
           above (no x) = absurd (n (omega arith))
+
       t : T (has ranks (lowest ranks))
       t = has-lowest ranks p l
+
       k : ℕ
       k = lowest ranks / 2
+
       go : (r : ℕ) → lowest ranks % 2 ≡ r → Operates c
       go zero e = (k, inl (reads-rank k .1 (subst (λ (i : ℕ). T (has ranks i)) (even e) t)))
         where
@@ -59,6 +62,7 @@ module _ (c : Commit) (ranks : Set) (values : List ℕ) (o : KeepsOperations c r
 
   -- as the code tests it
   pub operates-is : ranks < 2 ^ 64 → (not (eqb ranks 0) ≡ true) ↔ Operates c
-  operates-is w =
-      ( λ e. busy-ranks w (λ q. T-not (eqb ranks 0) (true-T (not (eqb ranks 0)) e) (eq-test ranks 0 q))
-      , λ o. T-true (not (eqb ranks 0)) (not-T (eqb ranks 0) (λ t. idle-ranks (eqb→eq ranks 0 t) o)) )
+  operates-is w = (
+    λ e. busy-ranks w (λ q. T-not (eqb ranks 0) (true-T (not (eqb ranks 0)) e) (eq-test ranks 0 q)),
+    λ o. T-true (not (eqb ranks 0)) (not-T (eqb ranks 0) (λ t. idle-ranks (eqb→eq ranks 0 t) o)),
+  )

@@ -230,5 +230,9 @@ pub fn perform(
 {
     let reads = note_reads(versions, keys, views, base, ranks, n, me);
     let earlier = append(versions, keys, values, ranks, n, me);
-    Linked { from: reads.from, earlier, over: reads.over }
+    Linked {
+        from: reads.from,
+        earlier,
+        over: reads.over,
+    }
 }

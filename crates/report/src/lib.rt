@@ -1,13 +1,26 @@
 // The report of a trace file, written to standard output. Each line ends with one line feed.
-use judging::{Answer, Verdict, Verdicts};
+use judging::Answer;
+use judging::Verdict;
+use judging::Verdicts;
 use libc::STDOUT_FILENO;
-use state::{Key, VersionNumber};
+use state::Key;
+use state::VersionNumber;
 
 // What the answer for a file is printed as: eleven lines where it was judged, one where it was refused.
 pub fn print(a: Answer) {
     match a {
-        Answer::Refused { code, record, key, version } => print_refusal(code, record, key, version),
-        Answer::Judged { verdicts, records, commits, image_length } => {
+        Answer::Refused {
+            code,
+            record,
+            key,
+            version,
+        } => print_refusal(code, record, key, version),
+        Answer::Judged {
+            verdicts,
+            records,
+            commits,
+            image_length,
+        } => {
             print_counts(records, commits);
             print_verdicts(verdicts);
         }
@@ -58,7 +71,12 @@ fn print_verdict(level: &[u8], v: Verdict) {
     print_text(level);
     match v {
         Verdict::Accepted => print_text(b" accepted\n"),
-        Verdict::Refused { record, clause, key, version } => {
+        Verdict::Refused {
+            record,
+            clause,
+            key,
+            version,
+        } => {
             print_number(b" refused record ", record);
             print_number(b" clause ", clause);
             print_place(key, version);

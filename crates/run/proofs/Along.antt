@@ -43,7 +43,7 @@ along-start bytes h es e = record {
   ordered = ordered-opening (h .keys);
   keys-are = refl;
   few = omega arith;
-  clients-fit = λ t p l. absurd (omega arith)
+  clients-fit = λ t p l. absurd (omega arith);
 }
 
 -- ---- the record at hand
@@ -62,15 +62,17 @@ ahead bytes h left at n commits e next rest q r = checked (sym (ap (λ (x : Reco
   where
     go-on : Event → ℕ → ℕ → Result (List Event)
     go-on f m c = onTaken (eventsFrom bytes h left m (suc n) c) (λ es. taken (f ∷ es))
+
     read-on : commitsWith e commits ≤ maxCommits → (x : Result (List Event)) → eventsFrom bytes h left next (suc n) (commitsWith e commits) ≡ x
         → onTaken x (λ es. taken (e ∷ es)) ≡ taken rest → Ahead bytes h left n next commits e rest
     read-on few (refused y) s z = refused-taken z
     read-on few (taken es) s z = let same : e ∷ es ≡ rest = cc in record { after = es; first = sym same; read = s; few = few }
+
     checked : need (leb (commitsWith e commits) maxCommits) (refused (refuse 8 n)) (go-on e next (commitsWith e commits)) ≡ taken rest → Ahead bytes h left n next commits e rest
     checked = need-ind (λ (x : Result (List Event)). x ≡ taken rest → Ahead bytes h left n next commits e rest)
-      (leb (commitsWith e commits) maxCommits) (refused (refuse 8 n)) (go-on e next (commitsWith e commits))
-      (λ z. refused-taken z)
-      (λ t z. read-on (leb→le _ _ t) (eventsFrom bytes h left next (suc n) (commitsWith e commits)) refl z)
+        (leb (commitsWith e commits) maxCommits) (refused (refuse 8 n)) (go-on e next (commitsWith e commits))
+        (λ z. refused-taken z)
+        (λ t z. read-on (leb→le _ _ t) (eventsFrom bytes h left next (suc n) (commitsWith e commits)) refl z)
 
 -- no record is left where none was counted
 pub nothing-left : (bytes : List ℕ) (h : Header) (at n commits : ℕ) (rest : List Event) → eventsFrom bytes h zero at n commits ≡ taken rest → rest ≡ []
@@ -91,10 +93,11 @@ module _ (bytes : List ℕ) (h : Header) (es : List Event) (left at n : ℕ) (g 
   pub along-end : rest ≡ [] → (firstAlong refusesEvent 1 (opening (h .keys)) es ≡ none) × (final (opening (h .keys)) es ≡ g)
       × ((l : Level) → firstAlong (failsEvent l) 1 (opening (h .keys)) es ≡ fs l)
   unfolding firstAlong final orElse
-  along-end q =
-      ( a .refusals ∙ ap (firstAlong refusesEvent n g) q
-      , a .ends ∙ ap (final g) q
-      , λ l. a .verdicts l ∙ ap (λ (x : List Event). orElse (fs l) (firstAlong (failsEvent l) n g x)) q ∙ or-none (fs l) )
+  along-end q = (
+    a .refusals ∙ ap (firstAlong refusesEvent n g) q,
+    a .ends ∙ ap (final g) q,
+    λ l. a .verdicts l ∙ ap (λ (x : List Event). orElse (fs l) (firstAlong (failsEvent l) n g x)) q ∙ or-none (fs l),
+  )
     where
       or-none : (o : Option Failure) → orElse o none ≡ o
       or-none none = refl
@@ -125,7 +128,7 @@ module _ (bytes : List ℕ) (h : Header) (es : List Event) (left at n : ℕ) (g 
     ordered = o;
     keys-are = k;
     few = f;
-    clients-fit = c
+    clients-fit = c;
   }
 
   -- after a shift
@@ -141,10 +144,11 @@ module _ (bytes : List ℕ) (h : Header) (es : List Event) (left at n : ℕ) (g 
       → refusesEvent n g (commit c) ≡ none → (after : List Event) × Next (commit c) after left′ next
   unfolding step update
   along-commit c left′ next f b x q =
-      let l = legal-commit g c (a .sound) f n .0 q in
-      ( x .after
-      , along-next (commit c) (x .after) (x .first) q left′ next (x .read) (sound-commit g c (a .sound) f (l .view))
-          (ordered-commit (g .store) (viewBefore g c) c (legal-made (a .sound) f l) (a .ordered)) (a .keys-are) (x .few) (λ t p m. client t p m (ℕ-discrete t (nextNumber (g .store)))) )
+      let l = legal-commit g c (a .sound) f n .0 q in (
+        x .after,
+        along-next (commit c) (x .after) (x .first) q left′ next (x .read) (sound-commit g c (a .sound) f (l .view))
+            (ordered-commit (g .store) (viewBefore g c) c (legal-made (a .sound) f l) (a .ordered)) (a .keys-are) (x .few) (λ t p m. client t p m (ℕ-discrete t (nextNumber (g .store)))),
+      )
     where
       client : (t : ℕ) → 0 < t → t ≤ storeAfter g c .commits → Dec (t ≡ nextNumber (g .store)) → storeAfter g c .clientOf t < 256
       client t p m (yes e) = subst (λ (y : ℕ). y < 256) (sym (ap (storeAfter g c .clientOf) e ∙ at-same (nextNumber (g .store)) (c .client) (g .store .clientOf))) b

@@ -83,7 +83,7 @@ module _ (file : List ℕ) (n client masks next made : ℕ) {r : Record} (is : r
       in-versions = s .keeps .in-versions;
       in-keys = s .keeps .in-keys;
       in-views = s .keeps .in-views;
-      fits = f .view-fits
+      fits = f .view-fits;
     }
 
     no-failure : (l : Level) → orElse (fs l) (failsEvent l number g (shift client (viewAt file masks n))) ≡ fs l
@@ -107,13 +107,13 @@ module _ (file : List ℕ) (n client masks next made : ℕ) {r : Record} (is : r
         in-views = kept g given q;
         in-sessions = s .keeps .in-sessions;
         in-commits = s .keeps .in-commits;
-        in-links = s .keeps .in-links
+        in-links = s .keeps .in-links;
       };
       failures = record {
         room = s .failures .room;
-        verdict = λ i b. subst (KeepsVerdict verdicts i) (sym (no-failure _)) (s .failures .verdict i b)
+        verdict = λ i b. subst (KeepsVerdict verdicts i) (sym (no-failure _)) (s .failures .verdict i b);
       };
-      small = s .small
+      small = s .small;
     }
     shift-says given (Refused code k v) q = sym (answer g number given) ∙ ap (outcomeOf number) q
 
@@ -141,11 +141,11 @@ module _ (file : List ℕ) (n : ℕ) (at : CommitAt) (next made : ℕ) {r : Reco
 
   module _ (number : ℕ) {versions keys views seen sessions commits links verdicts values : List ℕ} {versions′ keys′ views′ seen′ sessions′ commits′ links′ verdicts′ : List ℕ} (values′ : List ℕ) (o : Outcome)
       (done : (g : Configuration) (clients : ℕ) (fs : Level → Option Failure)
-          → Recorded g (commitIn file at n) clients n versions keys views seen sessions commits links → nextNumber (g .store) ≡ made + 1 → ValuesFit values → KeepsVerdicts fs verdicts
-          → (outcomeOf number o ≡ refusesEvent number g (commit (commitIn file at n))) × ValuesFit values′
-              × (o ≡ Taken
-                  → Keeps (step g (commit (commitIn file at n))) versions′ keys′ views′ seen′ sessions′ commits′ links′
-                      × KeepsVerdicts (λ l. orElse (fs l) (failsEvent l number g (commit (commitIn file at n)))) verdicts′))
+      → Recorded g (commitIn file at n) clients n versions keys views seen sessions commits links → nextNumber (g .store) ≡ made + 1 → ValuesFit values → KeepsVerdicts fs verdicts
+      → (outcomeOf number o ≡ refusesEvent number g (commit (commitIn file at n))) × ValuesFit values′
+      × (o ≡ Taken
+      → Keeps (step g (commit (commitIn file at n))) versions′ keys′ views′ seen′ sessions′ commits′ links′
+      × KeepsVerdicts (λ l. orElse (fs l) (failsEvent l number g (commit (commitIn file at n)))) verdicts′))
       (g : Configuration) (fs : Level → Option Failure) (s : Standing g fs n made versions keys views seen sessions commits links verdicts values) where
     recorded : (clients : ℕ) → clients ≤ maxClients → FitsEvent n clients (commit (commitIn file at n)) → suc made ≤ maxCommits
         → Recorded g (commitIn file at n) clients n versions keys views seen sessions commits links
@@ -156,7 +156,7 @@ module _ (file : List ℕ) (n : ℕ) (at : CommitAt) (next made : ℕ) {r : Reco
       room-left = omega (arith, s .counted);
       few-clients = few;
       fits = f;
-      keeps = s .keeps
+      keeps = s .keeps;
     }
 
     commit-says : (clients : ℕ) → Recorded g (commitIn file at n) clients n versions keys views seen sessions commits links → (x : Outcome) → o ≡ x
@@ -170,7 +170,7 @@ module _ (file : List ℕ) (n : ℕ) (at : CommitAt) (next made : ℕ) {r : Reco
           counted = omega (arith, s .counted);
           keeps = kept q .0;
           failures = kept q .1;
-          small = small
+          small = small;
         }
     commit-says clients given (Refused code k v) q =
         let (answer, small, kept) = done g clients fs given (omega (arith, s .counted)) (s .small) (s .failures) in sym answer ∙ ap (outcomeOf number) q

@@ -63,7 +63,7 @@ module _ {file : List ℕ} {n clients records : ℕ} {es : List Event} where
     counted = refl;
     keeps = s .keeps;
     failures = s .no-failure;
-    small = s .small
+    small = s .small;
   }
 
   module _ {left at number made : ℕ} {versions keys views seen sessions commits links verdicts values : List ℕ}
@@ -80,7 +80,7 @@ module _ {file : List ℕ} {n clients records : ℕ} {es : List Event} where
           keys-are = ap (λ (g : Configuration). g .store .keys) ends ∙ s .along .keys-are;
           clients-fit = subst (λ (g : Configuration). ClientsBelow 256 (g .store)) (sym ends) (s .along .clients-fit);
           keeps = subst (λ (g : Configuration). Keeps g versions keys views seen sessions commits links) (sym ends) (s .keeps);
-          failures = failures-same verdicts-are (s .failures)
+          failures = failures-same verdicts-are (s .failures);
         }
 
     standing : Standing (s .g) (s .fs) n made versions keys views seen sessions commits links verdicts values
@@ -92,7 +92,7 @@ module _ {file : List ℕ} {n clients records : ℕ} {es : List Event} where
       counted = s .counted;
       keeps = s .keeps;
       failures = s .failures;
-      small = s .small
+      small = s .small;
     }
 
     -- the record at hand
@@ -111,7 +111,7 @@ module _ {file : List ℕ} {n clients records : ℕ} {es : List Event} where
         means = first .read;
         few-clients = few-clients;
         fits = fits;
-        room = subst (λ (m : ℕ). commitsWith (first .event) m ≤ maxCommits) (s .counted) (first .few-commits)
+        room = subst (λ (m : ℕ). commitsWith (first .event) m ≤ maxCommits) (s .counted) (first .few-commits);
       }
 
       ahead-is : Ahead file (header n clients records) (left - 1) number (first .next) (s .g .store .commits) (first .event) (s .rest)
@@ -119,7 +119,7 @@ module _ {file : List ℕ} {n clients records : ℕ} {es : List Event} where
         after = first .others;
         first = first .is-first;
         read = rw (← add-one number) (first .others-read);
-        few = first .few-commits
+        few = first .few-commits;
       }
 
       along-on : (e : Event) → FitsEvent n clients e → (next : ℕ) → Ahead file (header n clients records) (left - 1) number next (s .g .store .commits) e (s .rest)
@@ -138,8 +138,8 @@ module _ {file : List ℕ} {n clients records : ℕ} {es : List Event} where
 
       module _ (versions′ keys′ views′ seen′ sessions′ commits′ links′ verdicts′ values′ : List ℕ) (x : Next)
           (answer : (g : Configuration) (fs : Level → Option Failure) (clients : ℕ) (e : Event) (next : ℕ) → Fitting file n clients made r e next
-              → Standing g fs n made versions keys views seen sessions commits links verdicts values
-              → NextSays number g fs e next versions′ keys′ views′ seen′ sessions′ commits′ links′ verdicts′ values′ x) where
+          → Standing g fs n made versions keys views seen sessions commits links verdicts values
+          → NextSays number g fs e next versions′ keys′ views′ seen′ sessions′ commits′ links′ verdicts′ values′ x) where
         said : {y : Next} → x ≡ y → NextSays number (s .g) (s .fs) (first .event) (first .next) versions′ keys′ views′ seen′ sessions′ commits′ links′ verdicts′ values′ y
         said q =
             subst (NextSays number (s .g) (s .fs) (first .event) (first .next) versions′ keys′ views′ seen′ sessions′ commits′ links′ verdicts′ values′) q
@@ -158,7 +158,7 @@ module _ {file : List ℕ} {n clients records : ℕ} {es : List Event} where
               counted = went .counted;
               keeps = went .keeps;
               failures = went .failures;
-              small = went .small
+              small = went .small;
             }
 
         pub run-stops : {code : ℕ} {k : Key} {v : VersionNumber} → x ≡ Stops code k v

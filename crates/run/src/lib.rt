@@ -2,8 +2,10 @@
 // change, and what the ten levels say of them.
 pub mod one; // one.rt: one record
 
-use one::{Next, one_record};
-use state::{Key, VersionNumber};
+use one::Next;
+use one::one_record;
+use state::Key;
+use state::VersionNumber;
 ghost use Prim.Native.Nat.{_≤_, _<_};
 ghost use mathlib.Core.Path.{_≡_};
 ghost use mathlib.Core.List.{List};
@@ -13,7 +15,9 @@ ghost use Rattle.run.specs.Ran.{Starts, RanSays};
 
 // What the run of a trace comes to: all records are done, with so many commits, or one is refused.
 pub enum Ran {
-    Done { commits: usize },
+    Done {
+        commits: usize,
+    },
     Refused {
         code: usize,
         record: usize,
@@ -23,18 +27,31 @@ pub enum Ran {
 }
 
 // The run of the records of a file in form, from the opening arrays on, up to the end or to the first record that is refused.
-pub fn run_all(file: &[u8], n: usize, clients: usize, records: usize, versions: &mut [u64], keys: &mut [u64], views: &mut [u64], seen: &mut [u64], sessions: &mut [u64], commits: &mut [u64], links: &mut [u64], verdicts: &mut [u64], values: &mut [u64], fresh: &mut [u64]) -> Ran
+pub fn run_all(
+    file: &[u8],
+    n: usize,
+    clients: usize,
+    records: usize,
+    versions: &mut [u64],
+    keys: &mut [u64],
+    views: &mut [u64],
+    seen: &mut [u64],
+    sessions: &mut [u64],
+    commits: &mut [u64],
+    links: &mut [u64],
+    verdicts: &mut [u64],
+    values: &mut [u64],
+    fresh: &mut [u64],
+) -> Ran
     requires { ⌜ (1 ≤ n) × (n ≤ 16) × (clients ≤ 16) × (12 ≤ length (now file)) × (length (now file) ≤ 65536) × (records < 65536) ⌝ }
     requires { ⌜ (length (now verdicts) ≡ 40) × (length (now values) ≡ 32) × (length (now fresh) ≡ 16) ⌝ }
     requires { ⌜ (length (now versions) ≡ 2048) × (length (now keys) ≡ 32) × (length (now views) ≡ 256) × (length (now seen) ≡ 16) × (length (now sessions) ≡ 48) × (length (now commits) ≡ 192) × (length (now links) ≡ 160) ⌝ }
     requires { ⌜ ((es : List Event) × Starts (now file) n clients records es (now versions) (now keys) (now views) (now seen) (now sessions) (now commits) (now links) (now verdicts) (now values)) ⌝ }
-    ensures {
-        λ r. ⌜
-            ((es : List Event)
-                → Starts (now (file .entry)) n clients records es (now (versions .entry)) (now (keys .entry)) (now (views .entry)) (now (seen .entry)) (now (sessions .entry)) (now (commits .entry)) (now (links .entry)) (now (verdicts .entry)) (now (values .entry))
-                → RanSays n es (now (versions .exit)) (now (keys .exit)) (now (views .exit)) (now (seen .exit)) (now (sessions .exit)) (now (commits .exit)) (now (links .exit)) (now (verdicts .exit)) r)
-        ⌝
-    }
+    ensures { λ r. ⌜
+        ((es : List Event)
+        → Starts (now (file .entry)) n clients records es (now (versions .entry)) (now (keys .entry)) (now (views .entry)) (now (seen .entry)) (now (sessions .entry)) (now (commits .entry)) (now (links .entry)) (now (verdicts .entry)) (now (values .entry))
+        → RanSays n es (now (versions .exit)) (now (keys .exit)) (now (views .exit)) (now (seen .exit)) (now (sessions .exit)) (now (commits .exit)) (now (links .exit)) (now (verdicts .exit)) r)
+        ⌝ }
 {
     let mut at = store::Store::HEADER;
     let mut number: usize = 1;
@@ -42,14 +59,38 @@ pub fn run_all(file: &[u8], n: usize, clients: usize, records: usize, versions: 
     let mut left = records;
     while 0 < left {
         let r = trace::records::known_at(file, at, n);
-        let next = one_record(file, r, number, made, versions, keys, views, seen, sessions, commits, links, verdicts, values, fresh, n);
+        let next = one_record(
+            file,
+            r,
+            number,
+            made,
+            versions,
+            keys,
+            views,
+            seen,
+            sessions,
+            commits,
+            links,
+            verdicts,
+            values,
+            fresh,
+            n,
+        );
         match next {
-            Next::Goes { at: place, made: count } => {
+            Next::Goes {
+                at: place,
+                made: count,
+            } => {
                 at = place;
                 made = count;
             }
             Next::Stops { code, key, version } => {
-                return Ran::Refused { code, record: number, key, version };
+                return Ran::Refused {
+                    code,
+                    record: number,
+                    key,
+                    version,
+                };
             }
         }
         number = number + 1;

@@ -49,6 +49,7 @@ least-is (suc n) f = go (least n f) (least-is n f)
         at : (j : ℕ) → j < suc n → T (f j) → Dec (j ≡ n) → ⊥
         at j l t (yes q) = rw (q, e) at t
         at j l t (no q) = h j (omega arith) t
+
     go : (o : Option ℕ) → Least n f o → Least (suc n) f (orElse o (when (f n) n))
     go (some i) (found l t h) = found {i = i} (omega arith) t h
     go none (missed h) = last (f n) refl h
@@ -69,6 +70,7 @@ least-found n f i l t h = go (least n f) (least-is n f)
     same j u g (yes x) y = absurd (h j x u)
     same j u g (no x) (yes y) = absurd (g i y t)
     same j u g (no x) (no y) = let e : j ≡ i = omega arith in rw e
+
     go : (o : Option ℕ) → Least n f o → o ≡ some i
     go none (missed m) = absurd (m i l t)
     go (some j) (found _ u g) = same j u g (decLt j i) (decLt i j)

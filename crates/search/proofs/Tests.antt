@@ -52,6 +52,7 @@ or-is {A} {B} a b f g = (λ t. out (or-cases a b t), into)
     out : T a ⊎ T b → A ⊎ B
     out (inl x) = inl (f .0 x)
     out (inr x) = inr (g .0 x)
+
     into : A ⊎ B → T (a || b)
     into (inl x) = or-left a b (f .1 x)
     into (inr x) = or-right a b (g .1 x)

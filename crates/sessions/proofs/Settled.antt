@@ -79,6 +79,7 @@ module _ (s : Store) (u : View) (c : Commit) (m : Made s u c) where
         into : (t ≡ me) ⊎ CommitOf s (c .client) t → CommitOf s′ (c .client) t
         into (inl e) = subst (CommitOf s′ (c .client)) (sym e) new-commit
         into (inr x) = keep-commit (c .client) t x
+
         out : CommitBy (history s) (c .client) t ⊎ ((t ≡ me) × Operates c × (c .client ≡ c .client)) → (t ≡ me) ⊎ CommitOf s (c .client) t
         out (inl x) = inr x
         out (inr (e, _, _)) = inl e
@@ -89,6 +90,7 @@ module _ (s : Store) (u : View) (c : Commit) (m : Made s u c) where
         into : ReadByClient (history s) (c .client) w ⊎ FromRead s u c w → ReadByClient (history s) (c .client) w ⊎ ((c .client ≡ c .client) × FromRead s u c w)
         into (inl x) = inl x
         into (inr x) = inr (refl, x)
+
         out : ReadByClient (history s) (c .client) w ⊎ ((c .client ≡ c .client) × FromRead s u c w) → ReadByClient (history s) (c .client) w ⊎ FromRead s u c w
         out (inl x) = inl x
         out (inr (_, x)) = inr x
@@ -186,7 +188,7 @@ module _ (s : Store) (u : View) (c : Commit) (m : Made s u c) where
     room = h .room;
     commits-of = λ d b. isSet-as _ (same-commits s u c m d (idle d)) (h .commits-of d b);
     drawn = λ d b. isSet-as _ (same-drawn s u c m d (idle d)) (h .drawn d b);
-    bar = λ d b x. both (h .bar d b x) (same-taken s u c m d (idle d) x)
+    bar = λ d b x. both (h .bar d b x) (same-taken s u c m d (idle d) x);
   }
     where
       idle : (d : ℕ) → ¬ (Operates c × (c .client ≡ d))
@@ -214,27 +216,31 @@ module _ (s : Store) (u : View) (c : Commit) (m : Made s u c) where
       room = three-length l d (maxClients + d) (2 * maxClients + d) x y (c .session + 1) apart ∙ h .room;
       commits-of = λ e be. commits-of e be (ℕ-discrete e d);
       drawn = λ e be. drawn e be (ℕ-discrete e d);
-      bar = λ e be v. bar e be v (ℕ-discrete e d)
+      bar = λ e be v. bar e be v (ℕ-discrete e d);
     }
       where
         at : (e n : ℕ) → e < maxClients → e ≢ d → (n ≡ e) ⊎ ((n ≡ maxClients + e) ⊎ (n ≡ 2 * maxClients + e)) → getD settled n 0 ≡ getD l n 0
         at e n be ne (inl q) = three-other l d (maxClients + d) (2 * maxClients + d) x y (c .session + 1) apart n (λ z. ne (omega arith)) (λ z. omega arith) (λ z. omega arith)
         at e n be ne (inr (inl q)) = three-other l d (maxClients + d) (2 * maxClients + d) x y (c .session + 1) apart n (λ z. omega arith) (λ z. ne (omega arith)) (λ z. omega arith)
         at e n be ne (inr (inr q)) = three-other l d (maxClients + d) (2 * maxClients + d) x y (c .session + 1) apart n (λ z. omega arith) (λ z. omega arith) (λ z. ne (omega arith))
+
         others : (e : ℕ) → e ≢ d → ¬ (Operates c × (c .client ≡ e))
         others e ne (_, q) = ne (sym q ∙ own)
+
         commits-of : (e : ℕ) → e < maxClients → Dec (e ≡ d) → IsSet (getD settled e 0) (CommitOf (update s u c) e)
         commits-of e be (no n) = moved _ _ (at e e be n (inl refl)) (isSet-as _ (same-commits s u c m e (others e n)) (h .commits-of e be))
         commits-of e be (yes q) =
             let first : getD settled e 0 ≡ x = ap (λ (n : ℕ). getD settled n 0) q ∙ three-first l d (maxClients + d) (2 * maxClients + d) x y (c .session + 1) apart in
             let set = isSet-insert (nextNumber s) (getD l d 0) (subst (λ (k : ℕ). IsSet (getD l d 0) (CommitOf s k)) (sym own) (h .commits-of d b)) in
             moved _ _ first (subst (λ (k : ℕ). IsSet x (CommitOf (update s u c) k)) (own ∙ sym q) (isSet-as x (more-commits s u c m o) set))
+
         drawn : (e : ℕ) → e < maxClients → Dec (e ≡ d) → IsSet (getD settled (maxClients + e) 0) (ReadByClient (history (update s u c)) e)
         drawn e be (no n) = moved _ _ (at e (maxClients + e) be n (inr (inl refl))) (isSet-as _ (same-drawn s u c m e (others e n)) (h .drawn e be))
         drawn e be (yes q) =
             let second : getD settled (maxClients + e) 0 ≡ y = ap (λ (n : ℕ). getD settled (maxClients + n) 0) q ∙ three-second l d (maxClients + d) (2 * maxClients + d) x y (c .session + 1) apart in
             let set = isSet-union (getD l (maxClients + d) 0) sources (subst (λ (k : ℕ). IsSet (getD l (maxClients + d) 0) (ReadByClient (history s) k)) (sym own) (h .drawn d b)) from in
             moved _ _ second (subst (λ (k : ℕ). IsSet y (ReadByClient (history (update s u c)) k)) (own ∙ sym q) (isSet-as y (more-drawn s u c m o) set))
+
         bar : (e : ℕ) → e < maxClients → (v : ℕ) → Dec (e ≡ d) → (v < getD settled (2 * maxClients + e) 0) ↔ ((t : ℕ) × CommitOf (update s u c) e t × (v ≤ update s u c .sessionOf t))
         bar e be v (no n) =
             let same-bar = at e (2 * maxClients + e) be n (inr (inr refl)) in
@@ -242,7 +248,7 @@ module _ (s : Store) (u : View) (c : Commit) (m : Made s u c) where
         bar e be v (yes q) =
             let third : getD settled (2 * maxClients + e) 0 ≡ c .session + 1 = ap (λ (n : ℕ). getD settled (2 * maxClients + n) 0) q ∙ three-third l d (maxClients + d) (2 * maxClients + d) x y (c .session + 1) apart in
             subst (λ (k : ℕ). (v < getD settled (2 * maxClients + e) 0) ↔ ((t : ℕ) × CommitOf (update s u c) k t × (v ≤ update s u c .sessionOf t))) (own ∙ sym q)
-              (both (λ z. subst (λ (k : ℕ). v < k) third z, λ z. subst (λ (k : ℕ). v < k) (sym third) z) (more-taken s u c m o v))
+            (both (λ z. subst (λ (k : ℕ). v < k) third z, λ z. subst (λ (k : ℕ). v < k) (sym third) z) (more-taken s u c m o v))
 
 -- ---- the log
 
@@ -258,6 +264,7 @@ module _ (s : Store) (u : View) (c : Commit) (m : Made s u c) where
     where
       last : t < suc (nextNumber s)
       last = omega (arith, number-after s u c m)
+
       go : Dec (t ≡ nextNumber s) → getD l′ t 0 ≡ packed (update s u c .clientOf t) (update s u c .sessionOf t)
       go (yes e) =
           ap (λ (n : ℕ). getD l′ n 0) e ∙ here
@@ -274,22 +281,26 @@ module _ (s : Store) (u : View) (c : Commit) (m : Made s u c) where
     room = length-set l (nextNumber s) word ∙ h .room;
     log = logged l (set l (nextNumber s) word) h (getD-set-same l (nextNumber s) word 0 (omega (arith, h .room))) (λ i b d. getD-set-other l (nextNumber s) i word 0 d) few;
     before = λ t b. moved _ _ (getD-set-other l (nextNumber s) (numbers + t) word 0 (λ e. omega arith)) (isSet-as _ (λ a. before a t (ℕ-discrete t (nextNumber s))) (h .before t b));
-    read = λ t b. moved _ _ (getD-set-other l (nextNumber s) (2 * numbers + t) word 0 (λ e. omega arith)) (isSet-as _ (λ w. read w t (ℕ-discrete t (nextNumber s))) (h .read t b))
+    read = λ t b. moved _ _ (getD-set-other l (nextNumber s) (2 * numbers + t) word 0 (λ e. omega arith)) (isSet-as _ (λ w. read w t (ℕ-discrete t (nextNumber s))) (h .read t b));
   }
     where
       before : (a t : ℕ) → Dec (t ≡ nextNumber s) → SO (history s) a t ↔ SO (history (update s u c)) a t
       before a t (no d) = same-before s u c m a t d
-      before a t (yes e) =
-          ( λ x. absurd (no-SO-new s u c m (subst (SO (history s) a) e x))
-          , λ x. absurd (n (new-before s u c m a .1 (subst (SO (history (update s u c)) a) e x) .0)) )
+      before a t (yes e) = (
+        λ x. absurd (no-SO-new s u c m (subst (SO (history s) a) e x)),
+        λ x. absurd (n (new-before s u c m a .1 (subst (SO (history (update s u c)) a) e x) .0)),
+      )
+
       nothing : (w : ℕ) → FromRead s u c w ⊎ (Operates c × ReadByClient (history s) (c .client) w) → ⊥
       nothing w (inl (k, r, _)) = n (k, inl r)
       nothing w (inr (o, _)) = n o
+
       read : (w t : ℕ) → Dec (t ≡ nextNumber s) → ReadUpTo (history s) w t ↔ ReadUpTo (history (update s u c)) w t
       read w t (no d) = same-read s u c m w t d
-      read w t (yes e) =
-          ( λ x. read-up-to-after s u c m w t .1 (inl x)
-          , λ x. absurd (nothing w (new-read s u c m w .1 (subst (ReadUpTo (history (update s u c)) w) e x))) )
+      read w t (yes e) = (
+        λ x. read-up-to-after s u c m w t .1 (inl x),
+        λ x. absurd (nothing w (new-read s u c m w .1 (subst (ReadUpTo (history (update s u c)) w) e x))),
+      )
 
   -- one with operations has the earlier commits of its client before it, and what they and it read from
   module _ (few : nextNumber s < numbers) (l : List ℕ) (h : KeepsCommits s l) (o : Operates c) (x y : ℕ)
@@ -307,9 +318,9 @@ module _ (s : Store) (u : View) (c : Commit) (m : Made s u c) where
     busy-commits = record {
       room = three-length l (nextNumber s) (numbers + nextNumber s) (2 * numbers + nextNumber s) word x y apart-rows ∙ h .room;
       log = logged l written h (three-first l (nextNumber s) (numbers + nextNumber s) (2 * numbers + nextNumber s) word x y apart-rows)
-        (λ i b d. kept i d (λ e. omega arith) (λ e. omega arith)) few;
+          (λ i b d. kept i d (λ e. omega arith) (λ e. omega arith)) few;
       before = λ t b. before t b (ℕ-discrete t (nextNumber s));
-      read = λ t b. read t b (ℕ-discrete t (nextNumber s))
+      read = λ t b. read t b (ℕ-discrete t (nextNumber s));
     }
       where
         before : (t : ℕ) → t < numbers → Dec (t ≡ nextNumber s) → IsSet (getD written (numbers + t) 0) (λ a. SO (history (update s u c)) a t)
@@ -317,22 +328,25 @@ module _ (s : Store) (u : View) (c : Commit) (m : Made s u c) where
         before t b (yes e) =
             let second : getD written (numbers + t) 0 ≡ x = ap (λ (n : ℕ). getD written (numbers + n) 0) e ∙ three-second l (nextNumber s) (numbers + nextNumber s) (2 * numbers + nextNumber s) word x y apart-rows in
             moved _ _ second (subst (λ (n : ℕ). IsSet x (λ a. SO (history (update s u c)) a n)) (sym e)
-              (isSet-as x (λ a. both (λ z. (o, z), λ z. z .1) (new-before s u c m a)) commits-of))
+            (isSet-as x (λ a. both (λ z. (o, z), λ z. z .1) (new-before s u c m a)) commits-of))
+
         split : (w : ℕ) → (ReadByClient (history s) (c .client) w ⊎ FromRead s u c w) ↔ (FromRead s u c w ⊎ (Operates c × ReadByClient (history s) (c .client) w))
         split w = (to, back)
           where
             to : ReadByClient (history s) (c .client) w ⊎ FromRead s u c w → FromRead s u c w ⊎ (Operates c × ReadByClient (history s) (c .client) w)
             to (inl z) = inr (o, z)
             to (inr z) = inl z
+
             back : FromRead s u c w ⊎ (Operates c × ReadByClient (history s) (c .client) w) → ReadByClient (history s) (c .client) w ⊎ FromRead s u c w
             back (inl z) = inr z
             back (inr (_, z)) = inl z
+
         read : (t : ℕ) → t < numbers → Dec (t ≡ nextNumber s) → IsSet (getD written (2 * numbers + t) 0) (λ w. ReadUpTo (history (update s u c)) w t)
         read t b (no d) = moved _ _ (kept (2 * numbers + t) (λ e. omega arith) (λ e. omega arith) (λ e. d (omega arith))) (isSet-as _ (λ w. same-read s u c m w t d) (h .read t b))
         read t b (yes e) =
             let third : getD written (2 * numbers + t) 0 ≡ y = ap (λ (n : ℕ). getD written (2 * numbers + n) 0) e ∙ three-third l (nextNumber s) (numbers + nextNumber s) (2 * numbers + nextNumber s) word x y apart-rows in
             moved _ _ third (subst (λ (n : ℕ). IsSet y (λ w. ReadUpTo (history (update s u c)) w n)) (sym e)
-              (isSet-as y (λ w. both (split w) (new-read s u c m w)) drawn))
+            (isSet-as y (λ w. both (split w) (new-read s u c m w)) drawn))
 
 -- ---- the same with the numbers that the code has
 
@@ -350,8 +364,8 @@ module _ (s : Store) (u : View) (c : Commit) (m : Made s u c) (n d v : ℕ) (num
   commits-settled k =
       let commits-of = subst (λ (e : ℕ). IsSet (getD l d 0) (CommitOf s e)) (sym client) (h .commits-of d b) in
       let drawn : IsSet y (λ w. ReadByClient (history s) (c .client) w ⊎ FromRead s u c w) =
-          subst (λ (q : ℕ). IsSet q (λ w. ReadByClient (history s) (c .client) w ⊎ FromRead s u c w)) (sym ey)
-          (isSet-union (getD l (maxClients + d) 0) sources (subst (λ (e : ℕ). IsSet (getD l (maxClients + d) 0) (ReadByClient (history s) e)) (sym client) (h .drawn d b)) from) in
+      subst (λ (q : ℕ). IsSet q (λ w. ReadByClient (history s) (c .client) w ⊎ FromRead s u c w)) (sym ey)
+      (isSet-union (getD l (maxClients + d) 0) sources (subst (λ (e : ℕ). IsSet (getD l (maxClients + d) 0) (ReadByClient (history s) e)) (sym client) (h .drawn d b)) from) in
       let less : nextNumber s < numbers = omega arith in
       subst (λ (q : ℕ). KeepsCommits (update s u c) (three r q (numbers + q) (2 * numbers + q) (packed d v) (getD l d 0) y)) number
       (subst (λ (q : ℕ). KeepsCommits (update s u c) (three r (nextNumber s) (numbers + nextNumber s) (2 * numbers + nextNumber s) (packed q v) (getD l d 0) y)) client

@@ -13,22 +13,26 @@ ghost use Rattle.state.specs.Keeps.{IsSet, KeepsSessions, KeepsCommits};
 
 // The commit `me` of a client stands in the log; where it has operations, it stands in its client's session too. `sources` are the
 // writers of what it reads.
-pub fn settle(sessions: &mut [u64], commits: &mut [u64], client: usize, session: u32, me: usize, operates: bool, sources: u64)
+pub fn settle(
+    sessions: &mut [u64],
+    commits: &mut [u64],
+    client: usize,
+    session: u32,
+    me: usize,
+    operates: bool,
+    sources: u64,
+)
     requires { ⌜ (length (now sessions) ≡ 48) × (length (now commits) ≡ 192) × (client < 16) × (me < 64) ⌝ }
-    ensures sessions {
-        λ _. ⌜
-            ((s : Store) (u : View) (c : Commit) → Made s u c → nextNumber s ≡ me → c .client ≡ client → c .session ≡ session
-                → (operates ≡ true) ↔ Operates c → IsSet sources (FromRead s u c) → KeepsSessions s (now (sessions .entry))
-                → KeepsSessions (update s u c) (now (sessions .exit)))
-        ⌝
-    }
-    ensures commits {
-        λ _. ⌜
-            ((s : Store) (u : View) (c : Commit) → Made s u c → nextNumber s ≡ me → c .client ≡ client → c .session ≡ session
-                → (operates ≡ true) ↔ Operates c → IsSet sources (FromRead s u c) → KeepsSessions s (now (sessions .entry))
-                → KeepsCommits s (now (commits .entry)) → KeepsCommits (update s u c) (now (commits .exit)))
-        ⌝
-    }
+    ensures sessions { λ _. ⌜
+        ((s : Store) (u : View) (c : Commit) → Made s u c → nextNumber s ≡ me → c .client ≡ client → c .session ≡ session
+        → (operates ≡ true) ↔ Operates c → IsSet sources (FromRead s u c) → KeepsSessions s (now (sessions .entry))
+        → KeepsSessions (update s u c) (now (sessions .exit)))
+        ⌝ }
+    ensures commits { λ _. ⌜
+        ((s : Store) (u : View) (c : Commit) → Made s u c → nextNumber s ≡ me → c .client ≡ client → c .session ≡ session
+        → (operates ≡ true) ↔ Operates c → IsSet sources (FromRead s u c) → KeepsSessions s (now (sessions .entry))
+        → KeepsCommits s (now (commits .entry)) → KeepsCommits (update s u c) (now (commits .exit)))
+        ⌝ }
 {
     commits[me] = (client as u64) + 4294967296 * (session as u64);
     if operates {

@@ -56,7 +56,7 @@ new-masks s old u n versions keys masks base seen fresh m e = record {
   seen-is = m .seen-is;
   in-fresh = m .in-fresh;
   fits = m .fits;
-  good = e
+  good = e;
 }
 
 -- the masks of the record, and the client's view
@@ -69,13 +69,13 @@ masks-given g u client n versions keys views seen fresh b h = record {
     few = h .few;
     in-versions = h .in-versions;
     in-keys = h .in-keys;
-    in-masks = λ k l. h .in-views .rows client b k (omega (arith, h .keys-are))
+    in-masks = λ k l. h .in-views .rows client b k (omega (arith, h .keys-are));
   };
   ordered = h .ordered;
   view = h .sound .views client;
   seen-is = h .in-views .holds client b;
   in-fresh = h .in-fresh;
-  fits = h .fits
+  fits = h .fits;
 }
 
 mask-read : (file : List ℕ) (masks n k : ℕ) → k < n → viewAt file masks n k ≡ leAt file (masks + 8 * k) 8
@@ -95,5 +95,5 @@ shift-to g file masks client n versions keys views seen fresh h e f = record {
   in-keys = h .in-keys;
   in-views = h .in-views;
   in-fresh = record { room = e; masks = λ k l. f k l ∙ sym (mask-read file masks n k l) };
-  fits = h .fits
+  fits = h .fits;
 }

@@ -32,7 +32,7 @@ module _ (g g′ : Configuration) (d : Client) (u : View) (n : ℕ) (few : n ≤
     room = k .long ∙ h .room;
     rows = λ e be. rows e be (ℕ-discrete e d);
     seen-room = length-set seen d m ∙ h .seen-room;
-    holds = λ e be. holds e be (ℕ-discrete e d)
+    holds = λ e be. holds e be (ℕ-discrete e d);
   }
     where
       outside : (e i : ℕ) → e < maxClients → i < n → e ≢ d → (viewPlace e i < maxKeys * d) ⊎ (maxKeys * d + n ≤ viewPlace e i)
@@ -41,6 +41,7 @@ module _ (g g′ : Configuration) (d : Client) (u : View) (n : ℕ) (few : n ≤
           go : Dec (e < d) → (viewPlace e i < maxKeys * d) ⊎ (maxKeys * d + n ≤ viewPlace e i)
           go (yes l) = inl (omega arith)
           go (no l) = inr (omega arith)
+
       rows : (e : Client) → e < maxClients → Dec (e ≡ d) → RowIs (g′ .store .keys) views′ e (g′ .views e)
       rows e be (yes q) i bi =
           let bi′ : i < n = omega arith in
@@ -48,6 +49,7 @@ module _ (g g′ : Configuration) (d : Client) (u : View) (n : ℕ) (few : n ≤
       rows e be (no ne) i bi =
           let bi′ : i < n = omega arith in
           k .others (viewPlace e i) (outside e i be bi′ ne) ∙ h .rows e be i (omega arith) ∙ ap (λ (v : View). v i) (sym (others e ne))
+
       holds : (e : Client) → e < maxClients → Dec (e ≡ d) → IsSet (getD (set seen d m) e 0) (Holds (history (g′ .store)) (held (g′ .views e)))
       holds e be (yes q) =
           let here : getD (set seen d m) e 0 ≡ m = ap (λ (x : ℕ). getD (set seen d m) x 0) q ∙ getD-set-same seen d m 0 (omega (arith, h .seen-room)) in

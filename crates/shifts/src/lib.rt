@@ -2,12 +2,17 @@
 pub mod masks; // masks.rt: the masks of a record against the store
 pub mod shift; // shift.rt: one shift
 
-use state::{Key, VersionNumber};
+use state::Key;
+use state::VersionNumber;
 
 // What a record comes to: it is taken, or refused with a code that names a key and a version (0 where not named).
 pub enum Outcome {
     Taken,
-    Refused { code: usize, key: Key, version: VersionNumber },
+    Refused {
+        code: usize,
+        key: Key,
+        version: VersionNumber,
+    },
 }
 
 // What the masks of a record come to: the commits of which they hold a version, or code 10 with its key, or code 11 with its place.

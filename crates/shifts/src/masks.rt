@@ -10,14 +10,20 @@ ghost use Rattle.store.specs.Store.{View, Store};
 ghost use Rattle.shifts.specs.Outcomes.{Masks, SightSays};
 
 // Codes 10 and 11, and the commits of which the masks hold a version. The client's view stands at `base` and holds the commits `seen`.
-pub fn sight(versions: &[u64], keys: &[u64], fresh: &[u64], views: &[u64], base: usize, seen: u64, n: usize) -> Sight
+pub fn sight(
+    versions: &[u64],
+    keys: &[u64],
+    fresh: &[u64],
+    views: &[u64],
+    base: usize,
+    seen: u64,
+    n: usize,
+) -> Sight
     requires { ⌜ (1 ≤ n) × (n ≤ 16) × (length (now versions) ≡ 2048) × (length (now keys) ≡ 32) × (length (now fresh) ≡ 16) × (base + n ≤ length (now views)) ⌝ }
-    ensures {
-        λ r. ⌜
-            ((s : Store) (old u : View) → Masks s old u n (now (versions .entry)) (now (keys .entry)) (now (views .entry)) base seen (now (fresh .entry))
-                → SightSays s u r)
-        ⌝
-    }
+    ensures { λ r. ⌜
+        ((s : Store) (old u : View) → Masks s old u n (now (versions .entry)) (now (keys .entry)) (now (views .entry)) base seen (now (fresh .entry))
+        → SightSays s u r)
+        ⌝ }
 {
     let bad = views::masks::bad_mask(fresh, keys, n);
     if let FoundKey::AtKey(k) = bad {

@@ -3,7 +3,8 @@
 use crate::Outcome;
 use crate::Sight;
 use crate::masks;
-use state::{Found, VersionNumber};
+use state::Found;
+use state::VersionNumber;
 ghost use Prim.Native.Nat.{ℕ, _+_, _*_, _≤_, _<_};
 ghost use mathlib.Core.Path.{_≡_};
 ghost use mathlib.Core.List.{List};
@@ -18,21 +19,24 @@ ghost use Rattle.shifts.specs.Outcomes.{outcomeOf, ShiftGiven, ShiftTo};
 
 // The masks in `fresh` are all versions that there are: no code is due, and they become the client's view, which holds all commits that wrote
 // something.
-fn whole_store(client: usize, keys: &[u64], views: &mut [u64], seen: &mut [u64], fresh: &[u64], n: usize) -> Outcome
+fn whole_store(
+    client: usize,
+    keys: &[u64],
+    views: &mut [u64],
+    seen: &mut [u64],
+    fresh: &[u64],
+    n: usize,
+) -> Outcome
     requires { ⌜ (n ≤ 16) × (client < 16) × (length (now keys) ≡ 32) × (length (now views) ≡ 256) × (length (now seen) ≡ 16) × (length (now fresh) ≡ 16) ⌝ }
     requires { ⌜ ((k : ℕ) → k < n → getD (now fresh) k 0 ≡ getD (now keys) (0 + k) 0) ⌝ }
-    ensures answer {
-        λ r. ⌜
-            ((g : Configuration) (u : View) (versions : List ℕ) (i : ℕ) → ShiftTo g u client n versions (now (keys .entry)) (now (views .entry)) (now (seen .entry)) (now (fresh .entry))
-                → outcomeOf i r ≡ refusesEvent i g (shift client u))
-        ⌝
-    }
-    ensures kept {
-        λ r. ⌜
-            ((g : Configuration) (u : View) (versions : List ℕ) → ShiftTo g u client n versions (now (keys .entry)) (now (views .entry)) (now (seen .entry)) (now (fresh .entry))
-                → r ≡ Taken → KeepsViews (step g (shift client u)) (now (views .exit)) (now (seen .exit)))
-        ⌝
-    }
+    ensures answer { λ r. ⌜
+        ((g : Configuration) (u : View) (versions : List ℕ) (i : ℕ) → ShiftTo g u client n versions (now (keys .entry)) (now (views .entry)) (now (seen .entry)) (now (fresh .entry))
+        → outcomeOf i r ≡ refusesEvent i g (shift client u))
+        ⌝ }
+    ensures kept { λ r. ⌜
+        ((g : Configuration) (u : View) (versions : List ℕ) → ShiftTo g u client n versions (now (keys .entry)) (now (views .entry)) (now (seen .entry)) (now (fresh .entry))
+        → r ≡ Taken → KeepsViews (step g (shift client u)) (now (views .exit)) (now (seen .exit)))
+        ⌝ }
 {
     views::masks::keep(views, 16 * client, fresh, n);
     seen[client] = views::held::all_writers(keys, n);
@@ -41,32 +45,48 @@ fn whole_store(client: usize, keys: &[u64], views: &mut [u64], seen: &mut [u64],
 
 // Codes 10, 11 and 12 of the masks in `fresh`; where none is due, they become the client's view. The commonest masks, all versions that there are,
 // are answered first.
-fn shift_on(client: usize, versions: &[u64], keys: &[u64], views: &mut [u64], seen: &mut [u64], fresh: &[u64], n: usize) -> Outcome
+fn shift_on(
+    client: usize,
+    versions: &[u64],
+    keys: &[u64],
+    views: &mut [u64],
+    seen: &mut [u64],
+    fresh: &[u64],
+    n: usize,
+) -> Outcome
     requires { ⌜ (1 ≤ n) × (n ≤ 16) × (client < 16) ⌝ }
     requires { ⌜ (length (now versions) ≡ 2048) × (length (now keys) ≡ 32) × (length (now views) ≡ 256) × (length (now seen) ≡ 16) × (length (now fresh) ≡ 16) ⌝ }
-    ensures answer {
-        λ r. ⌜
-            ((g : Configuration) (u : View) (i : ℕ) → ShiftTo g u client n (now (versions .entry)) (now (keys .entry)) (now (views .entry)) (now (seen .entry)) (now (fresh .entry))
-                → outcomeOf i r ≡ refusesEvent i g (shift client u))
-        ⌝
-    }
-    ensures kept {
-        λ r. ⌜
-            ((g : Configuration) (u : View) → ShiftTo g u client n (now (versions .entry)) (now (keys .entry)) (now (views .entry)) (now (seen .entry)) (now (fresh .entry))
-                → r ≡ Taken → KeepsViews (step g (shift client u)) (now (views .exit)) (now (seen .exit)))
-        ⌝
-    }
+    ensures answer { λ r. ⌜
+        ((g : Configuration) (u : View) (i : ℕ) → ShiftTo g u client n (now (versions .entry)) (now (keys .entry)) (now (views .entry)) (now (seen .entry)) (now (fresh .entry))
+        → outcomeOf i r ≡ refusesEvent i g (shift client u))
+        ⌝ }
+    ensures kept { λ r. ⌜
+        ((g : Configuration) (u : View) → ShiftTo g u client n (now (versions .entry)) (now (keys .entry)) (now (views .entry)) (now (seen .entry)) (now (fresh .entry))
+        → r ≡ Taken → KeepsViews (step g (shift client u)) (now (views .exit)) (now (seen .exit)))
+        ⌝ }
 {
     if views::masks::same(fresh, keys, 0, n) {
         return whole_store(client, keys, views, seen, fresh, n);
     }
     let base = 16 * client;
     match masks::sight(versions, keys, fresh, views, base, seen[client], n) {
-        Sight::Bad(k) => Outcome::Refused { code: 10, key: k, version: VersionNumber(0) },
-        Sight::Half(k, v) => Outcome::Refused { code: 11, key: k, version: v },
+        Sight::Bad(k) => Outcome::Refused {
+            code: 10,
+            key: k,
+            version: VersionNumber(0),
+        },
+        Sight::Half(k, v) => Outcome::Refused {
+            code: 11,
+            key: k,
+            version: v,
+        },
         Sight::Holds(m) => {
             if let Found::At(k, v) = views::masks::lost(fresh, views, base, n) {
-                return Outcome::Refused { code: 12, key: k, version: v };
+                return Outcome::Refused {
+                    code: 12,
+                    key: k,
+                    version: v,
+                };
             }
             views::masks::keep(views, base, fresh, n);
             seen[client] = m;
@@ -76,21 +96,27 @@ fn shift_on(client: usize, versions: &[u64], keys: &[u64], views: &mut [u64], se
 }
 
 // Codes 10, 11 and 12 of the masks at a place of the file, which are read into `fresh`; where none is due, they become the client's view.
-pub fn shift_to(file: &[u8], masks: usize, client: usize, versions: &[u64], keys: &[u64], views: &mut [u64], seen: &mut [u64], fresh: &mut [u64], n: usize) -> Outcome
+pub fn shift_to(
+    file: &[u8],
+    masks: usize,
+    client: usize,
+    versions: &[u64],
+    keys: &[u64],
+    views: &mut [u64],
+    seen: &mut [u64],
+    fresh: &mut [u64],
+    n: usize,
+) -> Outcome
     requires { ⌜ (1 ≤ n) × (n ≤ 16) × (client < 16) × (masks + 8 * n ≤ length (now file)) ⌝ }
     requires { ⌜ (length (now versions) ≡ 2048) × (length (now keys) ≡ 32) × (length (now views) ≡ 256) × (length (now seen) ≡ 16) × (length (now fresh) ≡ 16) ⌝ }
-    ensures answer {
-        λ r. ⌜
-            ((g : Configuration) (i : ℕ) → ShiftGiven g (now (file .entry)) masks client n (now (versions .entry)) (now (keys .entry)) (now (views .entry)) (now (seen .entry))
-                → outcomeOf i r ≡ refusesEvent i g (shift client (viewAt (now (file .entry)) masks n)))
-        ⌝
-    }
-    ensures kept {
-        λ r. ⌜
-            ((g : Configuration) → ShiftGiven g (now (file .entry)) masks client n (now (versions .entry)) (now (keys .entry)) (now (views .entry)) (now (seen .entry))
-                → r ≡ Taken → KeepsViews (step g (shift client (viewAt (now (file .entry)) masks n))) (now (views .exit)) (now (seen .exit)))
-        ⌝
-    }
+    ensures answer { λ r. ⌜
+        ((g : Configuration) (i : ℕ) → ShiftGiven g (now (file .entry)) masks client n (now (versions .entry)) (now (keys .entry)) (now (views .entry)) (now (seen .entry))
+        → outcomeOf i r ≡ refusesEvent i g (shift client (viewAt (now (file .entry)) masks n)))
+        ⌝ }
+    ensures kept { λ r. ⌜
+        ((g : Configuration) → ShiftGiven g (now (file .entry)) masks client n (now (versions .entry)) (now (keys .entry)) (now (views .entry)) (now (seen .entry))
+        → r ≡ Taken → KeepsViews (step g (shift client (viewAt (now (file .entry)) masks n))) (now (views .exit)) (now (seen .exit)))
+        ⌝ }
 {
     trace::contents::masks_into(file, masks, fresh, n);
     shift_on(client, versions, keys, views, seen, fresh, n)

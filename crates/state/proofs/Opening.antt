@@ -45,9 +45,10 @@ zeros n j = go (decLt j n)
 
 -- the set of number 0 alone
 zero-alone : {P : ℕ → Type 0} (m : ℕ) → m ≡ 1 → P 0 → ((t : ℕ) → P t → t ≡ 0) → IsSet m P
-zero-alone {P} m e p only t =
-    ( λ h. let l : t < 1 = has-lt 1 1 t (lit< tt) (subst (λ (x : ℕ). T (has x t)) e h) in subst P (sym (let z : t ≡ 0 = omega arith in z)) p
-    , λ q. subst (λ (x : ℕ). T (has x t)) (sym e) (subst (λ (x : ℕ). T (has 1 x)) (sym (only t q)) tt) )
+zero-alone {P} m e p only t = (
+  λ h. let l : t < 1 = has-lt 1 1 t (lit< tt) (subst (λ (x : ℕ). T (has x t)) e h) in subst P (sym (let z : t ≡ 0 = omega arith in z)) p,
+  λ q. subst (λ (x : ℕ). T (has x t)) (sym e) (subst (λ (x : ℕ). T (has 1 x)) (sym (only t q)) tt),
+)
 
 -- the empty set, where nothing has the property
 nothing-in : {P : ℕ → Type 0} (m : ℕ) → m ≡ 0 → ((t : ℕ) → ¬ P t) → IsSet m P
@@ -79,7 +80,7 @@ module _ (keys : ℕ) where
     room = filled-length (2 * (perKey * maxKeys)) 0;
     heads = λ k i l. zeros (2 * (perKey * maxKeys)) (headPlace k i) ∙ ap (λ (v : Version). v .value + 2 ^ 32 * v .writer) (sym (first-version k i l));
     readers = λ k i l. zeros (2 * (perKey * maxKeys)) (readersPlace k i) ∙ ap (λ (v : Version). v .readers) (sym (first-version k i l));
-    value-fits = λ k i l. subst (λ (v : Version). v .value < 2 ^ 32) (sym (first-version k i l)) (lit< tt)
+    value-fits = λ k i l. subst (λ (v : Version). v .value < 2 ^ 32) (sym (first-version k i l)) (lit< tt);
   }
 
   keeps-keys : keys ≤ maxKeys → KeepsKeys s (filled (2 * maxKeys) 1)
@@ -87,7 +88,7 @@ module _ (keys : ℕ) where
   keeps-keys few = record {
     room = filled-length (2 * maxKeys) 1;
     full = λ k l. ones (2 * maxKeys) k (omega arith) ∙ ap below (sym (one-version k l));
-    writers = λ k l. zero-alone _ (ones (2 * maxKeys) (maxKeys + k) (omega arith)) (0, wrote-first k l) (λ t (i, w). o .only-first t k i w .0)
+    writers = λ k l. zero-alone _ (ones (2 * maxKeys) (maxKeys + k) (omega arith)) (0, wrote-first k l) (λ t (i, w). o .only-first t k i w .0);
   }
 
   keeps-views : 1 ≤ keys → keys ≤ maxKeys → KeepsViews (opening keys) (filled (maxClients * maxKeys) 1) (filled maxClients 1)
@@ -97,8 +98,8 @@ module _ (keys : ℕ) where
     rows = λ d b k l. ones (maxClients * maxKeys) (viewPlace d k) (omega arith) ∙ sym (choose-yes (ltb k keys) 1 0 (lt→ltb k keys l));
     seen-room = filled-length maxClients 1;
     holds = λ d b. zero-alone _ (ones maxClients d b)
-      (0, 0, sound-opening keys .views d .opened 0 some, wrote-first 0 some)
-      (λ t (k, i, x, w). o .only-first t k i w .0)
+        (0, 0, sound-opening keys .views d .opened 0 some, wrote-first 0 some)
+        (λ t (k, i, x, w). o .only-first t k i w .0);
   }
 
   no-commit : (d t : ℕ) → ¬ CommitOf s d t
@@ -112,7 +113,7 @@ module _ (keys : ℕ) where
     room = filled-length (3 * maxClients) 0;
     commits-of = λ d b. nothing-in _ (zeros (3 * maxClients) d) (no-commit d);
     drawn = λ d b. nothing-in _ (zeros (3 * maxClients) (maxClients + d)) (λ w (t, c, r). no-commit d t c);
-    bar = λ d b x. (λ l. let z = zeros (3 * maxClients) (2 * maxClients + d) in absurd (omega arith), λ (t, c, l). absurd (no-commit d t c))
+    bar = λ d b x. (λ l. let z = zeros (3 * maxClients) (2 * maxClients + d) in absurd (omega arith), λ (t, c, l). absurd (no-commit d t c));
   }
 
   keeps-commits : KeepsCommits s (filled (3 * numbers) 0)
@@ -121,7 +122,7 @@ module _ (keys : ℕ) where
     room = filled-length (3 * numbers) 0;
     log = λ t p l. absurd (omega arith);
     before = λ t b. nothing-in _ (zeros (3 * numbers) (numbers + t)) (λ a l. no-link (by-SO l));
-    read = λ t b. nothing-in _ (zeros (3 * numbers) (2 * numbers + t)) (λ w x. no-read w t x)
+    read = λ t b. nothing-in _ (zeros (3 * numbers) (2 * numbers + t)) (λ w x. no-read w t x);
   }
     where
       no-read : (w t : ℕ) → ReadUpTo (history s) w t → ⊥
@@ -145,7 +146,7 @@ module _ (keys : ℕ) where
   keeps-links = record {
     room = filled-length (2 * numbers + 2 * maxKeys) 0;
     steps = λ kind b t l. nothing-in _ (zeros (2 * numbers + 2 * maxKeys) (linkPlace kind t)) (λ a. no-step kind a t);
-    leads = λ kind b k l. nothing-in _ (zeros (2 * numbers + 2 * maxKeys) (leadPlace kind k)) (λ a (r, x, y). no-first kind a r y)
+    leads = λ kind b k l. nothing-in _ (zeros (2 * numbers + 2 * maxKeys) (leadPlace kind k)) (λ a (r, x, y). no-first kind a r y);
   }
 
   -- "At the start each list is version 0 ..; each client's view is {0} at each key"
@@ -157,5 +158,5 @@ module _ (keys : ℕ) where
     in-views = keeps-views some few;
     in-sessions = keeps-sessions;
     in-commits = keeps-commits;
-    in-links = keeps-links
+    in-links = keeps-links;
   }

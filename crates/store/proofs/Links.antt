@@ -41,6 +41,7 @@ appears-stored s t = (out, into)
     out : Appears s t → Stored (history s) t
     out (k, i, l, inl e) = as-writer (l, e)
     out (k, i, l, inr r) = as-reader (l, r)
+
     into : Stored (history s) t → Appears s t
     into (as-writer w) = (_, _, w .0, inl (w .1))
     into (as-reader r) = (_, _, r .0, inr (r .1))
@@ -57,10 +58,10 @@ module _ (s : Store) (h : SoundStore s) where
   unfolding SO
   so-means a b = both
       (and-is (stored s a && stored s b) _
-        (and-is (stored s a) (stored s b) (both (stored-is s h a) (appears-stored s a)) (both (stored-is s h b) (appears-stored s b)))
-        (and-is (ltb 0 a && ltb 0 b) (eqb (s .clientOf a) (s .clientOf b) && ltb (s .sessionOf a) (s .sessionOf b))
-          (and-is (ltb 0 a) (ltb 0 b) (lt-is 0 a) (lt-is 0 b))
-          (and-is (eqb (s .clientOf a) (s .clientOf b)) (ltb (s .sessionOf a) (s .sessionOf b)) (eq-is _ _) (lt-is _ _))))
+      (and-is (stored s a) (stored s b) (both (stored-is s h a) (appears-stored s a)) (both (stored-is s h b) (appears-stored s b)))
+      (and-is (ltb 0 a && ltb 0 b) (eqb (s .clientOf a) (s .clientOf b) && ltb (s .sessionOf a) (s .sessionOf b))
+      (and-is (ltb 0 a) (ltb 0 b) (lt-is 0 a) (lt-is 0 b))
+      (and-is (eqb (s .clientOf a) (s .clientOf b)) (ltb (s .sessionOf a) (s .sessionOf b)) (eq-is _ _) (lt-is _ _))))
       (λ x. session-order (x .0 .0) (x .0 .1) (x .1 .0 .0) (x .1 .0 .1) (x .1 .1 .0) (x .1 .1 .1), back)
     where
       back : D.SO (history s) a b
@@ -87,8 +88,10 @@ module _ (s : Store) (h : SoundStore s) where
     where
       Two : Type 0
       Two = (k : Key) × (j : VersionNumber) × (j < count s k) × ((i : VersionNumber) × (i < j) × ((version s k i .writer ≡ a) × (version s k j .writer ≡ b)))
+
       out : Two → D.WW (history s) a b
       out (k, j, l, (i, m, (x, y))) = write-write {k = k} {i = i} {j = j} (omega arith, x) (l, y) m
+
       back : D.WW (history s) a b → Two
       back (write-write w v m) = (_, _, v .0, (_, m, (w .1, v .1)))
 
@@ -100,8 +103,10 @@ module _ (s : Store) (h : SoundStore s) where
     where
       Two : Type 0
       Two = (a ≢ b) × ((k : Key) × (j : VersionNumber) × (j < count s k) × ((i : VersionNumber) × (i < j) × (T (hasRead s a k i) × (version s k j .writer ≡ b))))
+
       out : Two → D.RW (history s) a b
       out (n, (k, j, l, (i, m, (x, y)))) = read-write {k = k} {i = i} {j = j} (omega arith, x) (l, y) m n
+
       back : D.RW (history s) a b → Two
       back (read-write r w m n) = (n, (_, _, w .0, (_, m, (r .1, w .1))))
 
@@ -123,18 +128,18 @@ module _ (s : Store) (h : SoundStore s) where
   unfolding prefixLinks
   prefix-means =
       union-means (withRW s (SO s)) (union (withRW s (WR s)) (WW s))
-        (with-rw-means (SO s) so-means (SO-below (nextNumber s) (history s) below))
-        (union-means (withRW s (WR s)) (WW s) (with-rw-means (WR s) wr-means (WR-below (nextNumber s) (history s) below)) ww-means)
+      (with-rw-means (SO s) so-means (SO-below (nextNumber s) (history s) below))
+      (union-means (withRW s (WR s)) (WW s) (with-rw-means (WR s) wr-means (WR-below (nextNumber s) (history s) below)) ww-means)
 
   snapshot-means : Means (snapshotLinks s) (SnapshotStep (history s))
   unfolding snapshotLinks
   snapshot-means a b = both
       (union-means (withRW s (SO s)) (union (withRW s (WR s)) (withRW s (WW s)))
-        (with-rw-means (SO s) so-means (SO-below (nextNumber s) (history s) below))
-        (union-means (withRW s (WR s)) (withRW s (WW s))
-          (with-rw-means (WR s) wr-means (WR-below (nextNumber s) (history s) below))
-          (with-rw-means (WW s) ww-means (WW-below (nextNumber s) (history s) below)))
-        a b)
+      (with-rw-means (SO s) so-means (SO-below (nextNumber s) (history s) below))
+      (union-means (withRW s (WR s)) (withRW s (WW s))
+      (with-rw-means (WR s) wr-means (WR-below (nextNumber s) (history s) below))
+      (with-rw-means (WW s) ww-means (WW-below (nextNumber s) (history s) below)))
+      a b)
       (snapshotStep-is (history s) a b)
 
   -- the paths of clauses 6 and 7, named from the one fact about any set of links

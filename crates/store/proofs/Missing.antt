@@ -31,13 +31,15 @@ module _ (s : Store) (want : Rule) (u : View) where
   missing-none = go (least (s .keys) (λ k. any (count s k) (lacks want u k))) (least-is (s .keys) (λ k. any (count s k) (lacks want u k)))
     where
       go : (o : Option Key) → Least (s .keys) (λ k. any (count s k) (lacks want u k)) o → (atKey (missingAt s want u) o ≡ none) ↔ Met
-      go none (missed h) =
-          ( λ e k i l m w. stable (has (u k) i) (λ n. h k l (any-in (count s k) (lacks want u k) i m (and-both (want k i) (not (has (u k) i)) w (not-T (has (u k) i) n))))
-          , λ f. refl )
+      go none (missed h) = (
+        λ e k i l m w. stable (has (u k) i) (λ n. h k l (any-in (count s k) (lacks want u k) i m (and-both (want k i) (not (has (u k) i)) w (not-T (has (u k) i) n)))),
+        λ f. refl,
+      )
       go (some k) (found l t h) =
-          let x = any-out (count s k) (lacks want u k) t in
-          ( λ e. absurd (not-none k t e)
-          , λ f. absurd (T-not (has (u k) (x .0)) (and-right (want k (x .0)) (not (has (u k) (x .0))) (x .2)) (f k (x .0) l (x .1) (and-left (want k (x .0)) (not (has (u k) (x .0))) (x .2)))) )
+          let x = any-out (count s k) (lacks want u k) t in (
+            λ e. absurd (not-none k t e),
+            λ f. absurd (T-not (has (u k) (x .0)) (and-right (want k (x .0)) (not (has (u k) (x .0))) (x .2)) (f k (x .0) l (x .1) (and-left (want k (x .0)) (not (has (u k) (x .0))) (x .2)))),
+          )
 
 -- a search over all versions of a store
 pub somewhere-is : (s : Store) → SoundStore s → {P : ℕ → ℕ → Type 0} (f : Rule) → ((k i : ℕ) → T (f k i) ↔ P k i)
@@ -65,5 +67,6 @@ module _ (s : Store) (want : Rule) (u : View) where
     where
       held-at : (l j : ℕ) → (T (want l j) → T (has (u l) j)) → T (lacks want u l j) → ⊥
       held-at l j f t = T-not (has (u l) j) (and-right (want l j) (not (has (u l) j)) t) (f (and-left (want l j) (not (has (u l) j)) t))
+
       none-at : (l : ℕ) → MetAt l → T (any (count s l) (lacks want u l)) → ⊥
       none-at l m t = let x = any-out (count s l) (lacks want u l) t in held-at l (x .0) (m (x .0) (x .1)) (x .2)

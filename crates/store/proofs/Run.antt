@@ -45,9 +45,10 @@ unfolding firstAlong step update
 legal-run n g [] h f = (λ e. done, λ r. refl)
 legal-run n g (shift d u ∷ es) h f =
     let w = orElse-none (refusesEvent n g (shift d u)) (firstAlong refusesEvent (suc n) (step g (shift d u)) es) in
-    let l = legal-shift n g d u h (f .0) in
-    ( λ e. let q = l .0 (w .0 e .0) in shifts (f .0) q (legal-run (suc n) (step g (shift d u)) es (sound-shifts h q) (f .1) .0 (w .0 e .1))
-    , λ r. w .1 (into r l (λ q. legal-run (suc n) (step g (shift d u)) es (sound-shifts h q) (f .1) .1)) )
+    let l = legal-shift n g d u h (f .0) in (
+      λ e. let q = l .0 (w .0 e .0) in shifts (f .0) q (legal-run (suc n) (step g (shift d u)) es (sound-shifts h q) (f .1) .0 (w .0 e .1)),
+      λ r. w .1 (into r l (λ q. legal-run (suc n) (step g (shift d u)) es (sound-shifts h q) (f .1) .1)),
+    )
   where
     into : LegalRun g (shift d u ∷ es) → (refusesEvent n g (shift d u) ≡ none) ↔ LegalShift g d u
         → (LegalShift g d u → LegalRun (step g (shift d u)) es → firstAlong refusesEvent (suc n) (step g (shift d u)) es ≡ none)
@@ -55,9 +56,10 @@ legal-run n g (shift d u ∷ es) h f =
     into (shifts _ q r) l ih = (l .1 q, ih q r)
 legal-run n g (commit c ∷ es) h f =
     let w = orElse-none (refusesEvent n g (commit c)) (firstAlong refusesEvent (suc n) (step g (commit c)) es) in
-    let l = legal-commit g c h (f .0) n in
-    ( λ e. let q = l .0 (w .0 e .0) in commits (f .0) q (legal-run (suc n) (step g (commit c)) es (sound-commits h (f .0) q) (f .1) .0 (w .0 e .1))
-    , λ r. w .1 (into r l (λ q. legal-run (suc n) (step g (commit c)) es (sound-commits h (f .0) q) (f .1) .1)) )
+    let l = legal-commit g c h (f .0) n in (
+      λ e. let q = l .0 (w .0 e .0) in commits (f .0) q (legal-run (suc n) (step g (commit c)) es (sound-commits h (f .0) q) (f .1) .0 (w .0 e .1)),
+      λ r. w .1 (into r l (λ q. legal-run (suc n) (step g (commit c)) es (sound-commits h (f .0) q) (f .1) .1)),
+    )
   where
     into : LegalRun g (commit c ∷ es) → (refusesEvent n g (commit c) ≡ none) ↔ LegalCommit g c
         → (LegalCommit g c → LegalRun (step g (commit c)) es → firstAlong refusesEvent (suc n) (step g (commit c)) es ≡ none)

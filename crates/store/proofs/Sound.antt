@@ -118,7 +118,7 @@ sound-opening keys = record {
     readers = λ t k i r. absurd (opening-unread keys t k i r);
     some-version = λ k l. opening-some (ltb k keys) (lt→ltb k keys l);
     few = λ k. opening-count (ltb k keys);
-    only-keys = λ k i l. ltb→lt k keys (opening-first (ltb k keys) i l .0)
+    only-keys = λ k i l. ltb→lt k keys (opening-first (ltb k keys) i l .0);
   };
   views = λ d. record {
     word = λ k. opening-word (ltb k keys);
@@ -129,8 +129,8 @@ sound-opening keys = record {
         let b = opening-first (ltb l keys) j (v .0) in
         let c = opening-count (ltb l keys) in
         let z : j ≡ 0 = let m : j < length (choose (ltb l keys) (openingVersion ∷ []) []) = v .0 in omega arith in
-        subst (λ (x : ℕ). T (has (choose (ltb l keys) 1 0) x)) (sym z) (opening-zeroth (ltb l keys) (b .0))
-  }
+        subst (λ (x : ℕ). T (has (choose (ltb l keys) 1 0) x)) (sym z) (opening-zeroth (ltb l keys) (b .0));
+  };
 }
 
 -- ---- a shift
@@ -180,7 +180,7 @@ module _ (s : Store) (u : View) (c : Commit) (h : SoundStore s) where
     whole = λ t k i l j b x y.
         let o : Wrote s t k i = wrote-kept t k i (w .exist k i b) x in
         let n : t < nextNumber s = h .writers t k i o in
-        w .whole t k i l j b o (wrote-old t l j y (omega arith))
+        w .whole t k i l j b o (wrote-old t l j y (omega arith));
   }
 
   pub sound-update : ((k : Key) → T (reads c k) → k < s .keys) → ((k : Key) → T (writes c k) → k < s .keys) → SoundStore (update s u c)
@@ -190,15 +190,17 @@ module _ (s : Store) (u : View) (c : Commit) (h : SoundStore s) where
     readers = λ t k i r. reader t k i (read-update s u c t k i r);
     some-version = λ k l. omega (arith, h .some-version k l, count-update s u c k);
     few = λ k. omega (arith, h .few k, count-update s u c k);
-    only-keys = λ k i l. key k i l (T? (reads c k)) (T? (writes c k))
+    only-keys = λ k i l. key k i l (T? (reads c k)) (T? (writes c k));
   }
     where
       writer : (t k i : ℕ) → Wrote s t k i ⊎ ((t ≡ nextNumber s) × T (writes c k) × (i ≡ count s k)) → t < suc (nextNumber s)
       writer t k i (inl w) = let l : t < nextNumber s = h .writers t k i w in omega arith
       writer t k i (inr (e, _, _)) = omega arith
+
       reader : (t k i : ℕ) → Read s t k i ⊎ ((t ≡ nextNumber s) × T (reads c k) × (i ≡ newest u k)) → t < suc (nextNumber s)
       reader t k i (inl r) = let l : t < nextNumber s = h .readers t k i r in omega arith
       reader t k i (inr (e, _, _)) = omega arith
+
       key : (k i : ℕ) → i < count (update s u c) k → Dec (T (reads c k)) → Dec (T (writes c k)) → k < s .keys
       key k i l (yes r) w = rk k r
       key k i l (no n) (yes w) = wk k w
@@ -208,7 +210,7 @@ pub sound-commit : (g : Configuration) (c : Commit) → Sound g → FitsCommit (
 unfolding step
 sound-commit g c h f v = record {
   store = sound-update (g .store) (viewBefore g c) c (h .store) (f .read-keys) (f .write-keys);
-  views = λ e. go e (ℕ-discrete e (c .client))
+  views = λ e. go e (ℕ-discrete e (c .client));
 }
   where
     go : (e : Client) → Dec (e ≡ c .client) → IsView (storeAfter g c) (atNumber (c .client) (c .viewAfter) (g .views) e)

@@ -148,11 +148,13 @@ module _ (s : Store) (u : View) (c : Commit) where
     where
       n : length (noted k) ≡ count s k
       n = note-length (valueOf read (c .operations) k) (newest u k) (nextNumber s) (s .versions k)
+
       fin : i < count s k → version (update s u c) k i ≡ getD (noted k) i openingVersion
           → (getD (noted k) i openingVersion ≡ version s k i) ⊎ (T (reads c k) × (i ≡ newest u k) × (getD (noted k) i openingVersion ≡ readBy (nextNumber s) (version s k i)))
           → Wrote s t k i
       fin h q (inl r) = (h, ap (λ (v : Version). v .writer) (sym r ∙ sym q) ∙ e)
       fin h q (inr (_, _, r)) = (h, ap (λ (v : Version). v .writer) (sym r ∙ sym q) ∙ e)
+
       go : Appended (valueOf write (c .operations) k) (nextNumber s) (noted k) i → Wrote s t k i ⊎ ((t ≡ nextNumber s) × T (writes c k) × (i ≡ count s k))
       go (old h q) = let h′ : i < count s k = omega (arith, n) in inl (fin h′ q (note-at (valueOf read (c .operations) k) (newest u k) (nextNumber s) (s .versions k) i h′))
       go (new w j q r) = inr (sym e ∙ q, w, j ∙ n)
@@ -164,15 +166,18 @@ module _ (s : Store) (u : View) (c : Commit) where
     where
       n : length (noted k) ≡ count s k
       n = note-length (valueOf read (c .operations) k) (newest u k) (nextNumber s) (s .versions k)
+
       by : T (reads c k) → i ≡ newest u k → i < count s k → T (has (version s k i .readers) t) ⊎ (t ≡ nextNumber s)
           → Read s t k i ⊎ ((t ≡ nextNumber s) × T (reads c k) × (i ≡ newest u k))
       by r j l′ (inl x) = inl (l′, x)
       by r j l′ (inr x) = inr (x, r, j)
+
       fin : i < count s k → version (update s u c) k i ≡ getD (noted k) i openingVersion
           → (getD (noted k) i openingVersion ≡ version s k i) ⊎ (T (reads c k) × (i ≡ newest u k) × (getD (noted k) i openingVersion ≡ readBy (nextNumber s) (version s k i)))
           → Read s t k i ⊎ ((t ≡ nextNumber s) × T (reads c k) × (i ≡ newest u k))
       fin l′ q (inl r) = inl (l′, subst (λ (v : Version). T (has (v .readers) t)) (q ∙ r) h)
       fin l′ q (inr (rd, j, r)) = by rd j l′ (insert-has (nextNumber s) (version s k i .readers) t (subst (λ (v : Version). T (has (v .readers) t)) (q ∙ r) h))
+
       go : Appended (valueOf write (c .operations) k) (nextNumber s) (noted k) i → Read s t k i ⊎ ((t ≡ nextNumber s) × T (reads c k) × (i ≡ newest u k))
       go (old l′ q) = let l″ : i < count s k = omega (arith, n) in fin l″ q (note-at (valueOf read (c .operations) k) (newest u k) (nextNumber s) (s .versions k) i l″)
       go (new w j q r) = absurd (has-none t (subst (λ (m : ℕ). T (has m t)) r h))
@@ -209,29 +214,33 @@ module _ (s : Store) (u : View) (c : Commit) where
 
   -- what a commit wrote or read before it wrote or read after
   pub wrote-stays : (t k i : ℕ) → Wrote s t k i → Wrote (update s u c) t k i
-  wrote-stays t k i (l, e) =
-      ( omega (arith, count-update k .0)
-      , ap (λ (v : Version). v .writer) (version-kept k i l) ∙ note-writer (valueOf read (c .operations) k) (newest u k) (nextNumber s) (s .versions k) i l ∙ e )
+  wrote-stays t k i (l, e) = (
+    omega (arith, count-update k .0),
+    ap (λ (v : Version). v .writer) (version-kept k i l) ∙ note-writer (valueOf read (c .operations) k) (newest u k) (nextNumber s) (s .versions k) i l ∙ e,
+  )
 
   pub read-stays : (t k i : ℕ) → Read s t k i → Read (update s u c) t k i
-  read-stays t k i (l, r) =
-      ( omega (arith, count-update k .0)
-      , subst (λ (v : Version). T (has (v .readers) t)) (sym (version-kept k i l))
-          (note-reader (valueOf read (c .operations) k) (newest u k) (nextNumber s) (s .versions k) i l t r) )
+  read-stays t k i (l, r) = (
+    omega (arith, count-update k .0),
+    subst (λ (v : Version). T (has (v .readers) t)) (sym (version-kept k i l))
+        (note-reader (valueOf read (c .operations) k) (newest u k) (nextNumber s) (s .versions k) i l t r),
+  )
 
   -- the new version of a key that the commit writes is by this commit
   pub wrote-new : (k : Key) → T (writes c k) → Wrote (update s u c) (nextNumber s) k (count s k)
   unfolding update
-  wrote-new k w =
-      ( omega (arith, count-written k w)
-      , subst (λ (i : ℕ). version (update s u c) k i .writer ≡ nextNumber s) (noted-length k) (append-last (valueOf write (c .operations) k) (nextNumber s) (noted k) w) )
+  wrote-new k w = (
+    omega (arith, count-written k w),
+    subst (λ (i : ℕ). version (update s u c) k i .writer ≡ nextNumber s) (noted-length k) (append-last (valueOf write (c .operations) k) (nextNumber s) (noted k) w),
+  )
 
   -- and this commit reads the newest version that it sees
   pub read-new : (k : Key) → T (reads c k) → newest u k < count s k → Read (update s u c) (nextNumber s) k (newest u k)
-  read-new k r l =
-      ( omega (arith, count-update k .0)
-      , subst (λ (v : Version). T (has (v .readers) (nextNumber s))) (sym (version-kept k (newest u k) l))
-          (note-new (valueOf read (c .operations) k) (newest u k) (nextNumber s) (s .versions k) l r) )
+  read-new k r l = (
+    omega (arith, count-update k .0),
+    subst (λ (v : Version). T (has (v .readers) (nextNumber s))) (sym (version-kept k (newest u k) l))
+        (note-new (valueOf read (c .operations) k) (newest u k) (nextNumber s) (s .versions k) l r),
+  )
 
   -- so: who wrote which version after the commit
   pub wrote-update-is : (t k i : ℕ) → Wrote (update s u c) t k i ↔ (Wrote s t k i ⊎ ((t ≡ nextNumber s) × T (writes c k) × (i ≡ count s k)))

@@ -25,20 +25,30 @@ pub struct Store {
 
 impl Store {
     pub const KEYS: usize = 16;
+
     pub const CLIENTS: usize = 16;
+
     pub const COMMITS: usize = 63;
     // A file is at most so long, and at least its own length and a header.
     pub const BYTES: usize = 65536;
+
     pub const HEADER: usize = 12;
     // A key has at most the opening version and one by each commit; commit numbers begin with the opening transaction's, 0.
     pub const VERSIONS: usize = 64;
+
     pub const NUMBERS: usize = 64;
 
     // The constants are the limits of specs/Limits.antt.
     pub fn limits() -> [usize; 5]
         ensures { λ r. ⌜ r ≡ maxKeys ∷ maxClients ∷ maxCommits ∷ maxBytes ∷ minBytes ∷ [] ⌝ }
     {
-        [Store::KEYS, Store::CLIENTS, Store::COMMITS, Store::BYTES, Store::HEADER]
+        [
+            Store::KEYS,
+            Store::CLIENTS,
+            Store::COMMITS,
+            Store::BYTES,
+            Store::HEADER,
+        ]
     }
 
     // "At the start each list is version 0: value 0, writer the opening transaction (number 0), no readers; each client's view is {0}

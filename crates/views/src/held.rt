@@ -22,10 +22,7 @@ fn writers_of(versions: &[u64], k: usize, set: u64) -> u64
     let mut left = set;
     while left != 0 {
         let v = sets::lowest(left);
-        writers = sets::insert(
-            writers,
-            state::writer_of(versions[crate::PER_KEY * k + v]),
-        );
+        writers = sets::insert(writers, state::writer_of(versions[crate::PER_KEY * k + v]));
         left = sets::rest(left);
     }
     writers

@@ -51,10 +51,12 @@ same-length-4 c = search needs
 returns-3 : tie.Need-returns-3
 returns-3 c =
     let start = c .before .before .before .before .before .before .before .before .before .before .before .before .before .before .before .before .before .before .before in
-    let j = c .before .before .before .before .before .before .before .before .before .before .before .before .before .judge .ensures in
-    (λ l. absurd (omega arith), λ l.
-    let told = told-words (sym (ap answerOf (c .before .before .before .before .before .before .before .before .before .verdicts .given .1)) ∙ j .0) (now (start .args .out)) _ _ refl (judged-put _ _ _ _ _ _ l (c .before .before .before .before .before .before .put-four2 .ensures) (c .before .before .put-verdicts .ensures)) in
-    (told .0, told .1, j .1 .0))
+    let j = c .before .before .before .before .before .before .before .before .before .before .before .before .before .judge .ensures in (
+      λ l. absurd (omega arith),
+      λ l.
+          let told = told-words (sym (ap answerOf (c .before .before .before .before .before .before .before .before .before .verdicts .given .1)) ∙ j .0) (now (start .args .out)) _ _ refl (judged-put _ _ _ _ _ _ l (c .before .before .before .before .before .before .put-four2 .ensures) (c .before .before .put-verdicts .ensures)) in
+          (told .0, told .1, j .1 .0),
+    )
 
 pub judge-file-spec : {M : Type 1} → statement M
 judge-file-spec =

@@ -91,7 +91,7 @@ returns : tie.Need-returns Inv-loop μ-loop
 returns c =
     let (k, small, h, room, room′, p) = c .before .loop .inv in
     λ s d g. let x = writes-appended g _ h _ _ small (omega arith) (omega arith) (omega arith) (p s d g .0) in
-        (x .0, x .1, all-earlier g 0 h small (omega arith) _ (p s d g .1))
+    (x .0, x .1, all-earlier g 0 h small (omega arith) _ (p s d g .1))
 
 pub append-spec : {M : Type 1} → statement M
 append-spec =

@@ -22,8 +22,8 @@ abbrev Inv-loop : tie.InvT-loop
 Inv-loop versions₀ keys views base ranks n me from₀ over₀ left₀ versions from over left =
     (k : ℕ) × (k ≤ n) × Left ranks 0 n k left × (length versions ≡ 2048)
     × ((s : Store) (u : View) (c : Commit) (values : List ℕ) → Given s u c versions₀ views base values ranks n
-        → ReadsPassed s u c me n k versions
-            × (KeepsKeys s keys → Ordered s → IsSet from (From (readAt s u c) k) × IsSet over (From (laterAt s u c) k)))
+    → ReadsPassed s u c me n k versions
+    × (KeepsKeys s keys → Ordered s → IsSet from (From (readAt s u c) k) × IsSet over (From (laterAt s u c) k)))
 
 abbrev μ-loop : tie.MeasureT-loop
 μ-loop versions₀ keys views base ranks n me from₀ over₀ left₀ versions from over left = left

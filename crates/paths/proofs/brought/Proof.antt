@@ -13,7 +13,7 @@ use Rattle.paths.proofs.brought.Statement.{statement}
 use Rattle.paths.proofs.brought.Tie as tie
 
 abbrev Inv-loop : tie.InvT-loop
-Inv-loop links ranks n prefix₀ snapshot₀ left₀ prefix snapshot left = 
+Inv-loop links ranks n prefix₀ snapshot₀ left₀ prefix snapshot left =
     (k : ℕ) × (k ≤ n) × Left ranks 1 n k left × IsSet prefix (BroughtBelow 0 links ranks k) × IsSet snapshot (BroughtBelow 1 links ranks k)
 
 abbrev μ-loop : tie.MeasureT-loop

@@ -18,7 +18,7 @@ Inv-loop file n clients records versions₀ keys₀ views₀ seen₀ sessions₀
     (at ≤ length file) × (number + left ≡ records + 1)
     × ((length verdicts ≡ 40) × (length values ≡ 32) × (length fresh ≡ 16) × (length versions ≡ 2048) × (length keys ≡ 32) × (length views ≡ 256) × (length seen ≡ 16) × (length sessions ≡ 48) × (length commits ≡ 192) × (length links ≡ 160))
     × ((es : List Event) → Starts file n clients records es versions₀ keys₀ views₀ seen₀ sessions₀ commits₀ links₀ verdicts₀ values₀
-        → Stands file n clients records es left at number made versions keys views seen sessions commits links verdicts values)
+    → Stands file n clients records es left at number made versions keys views seen sessions commits links verdicts values)
 
 abbrev μ-loop : tie.MeasureT-loop
 μ-loop file n clients records versions₀ keys₀ views₀ seen₀ sessions₀ commits₀ links₀ verdicts₀ values₀ fresh₀ at₀ number₀ made₀ left₀ versions keys views seen sessions commits links verdicts values fresh at number made left = left
@@ -80,10 +80,10 @@ same-length-10 c = omega (arith, c .before .before .before .before .fresh .given
 returns : tie.Need-returns Inv-loop μ-loop
 returns c =
     λ es s.
-        let l = c .before .before .before .before .before .before .before .before .before .before .before .before .before .before .before .before .before .before .before .before .before .before .before .before .before .before .before .before .before .before .before .before .before .before .before .before .loop in
-        let some : 0 < l .left = omega (arith, c .before .before .before .before .before .before .before .before .before .before .before .before .before .before .before .before .before .before .before .before .before .before .before .before .before .before .before .before .before .before .before .before .before .before .before .loop-test .taken) in
-        run-stops (l .inv .3 es s) (λ i. c .before .before .before .before .before .before .before .before .before .before .before .before .before .before .before .before .before .before .before .before .before .before .before .before .before .before .before .before .before .before .before .before .before .before .before .before .before .before .before .before .before .before .before .before .before .before .before .shared-slice-known .given i .fits) (c .before .before .before .before .before .before .before .before .before .before .before .before .before .before .before .before .before .before .before .before .before .before .before .before .before .before .before .before .before .before .before .before .before .before .before .before .before .before .before .before .before .before .before .before .before .before .before .before .pre .0 .2) some _ (c .before .before .before .before .before .before .before .before .before .before .before .before .before .before .before .before .before .before .before .before .before .before .before .before .before .before .before .before .before .before .before .before .before .before .known-at .ensures _ (in-form (l .inv .3 es s) some)) _ _ _ _ _ _ _ _ _ _
-        (c .before .before .before .before .before .before .before .before .before .before .before .before .before .before .before .before .before .before .before .before .before .before .before .one-record .ensures .1) (c .before .next2 .given .1)
+    let l = c .before .before .before .before .before .before .before .before .before .before .before .before .before .before .before .before .before .before .before .before .before .before .before .before .before .before .before .before .before .before .before .before .before .before .before .before .loop in
+    let some : 0 < l .left = omega (arith, c .before .before .before .before .before .before .before .before .before .before .before .before .before .before .before .before .before .before .before .before .before .before .before .before .before .before .before .before .before .before .before .before .before .before .before .loop-test .taken) in
+    run-stops (l .inv .3 es s) (λ i. c .before .before .before .before .before .before .before .before .before .before .before .before .before .before .before .before .before .before .before .before .before .before .before .before .before .before .before .before .before .before .before .before .before .before .before .before .before .before .before .before .before .before .before .before .before .before .before .shared-slice-known .given i .fits) (c .before .before .before .before .before .before .before .before .before .before .before .before .before .before .before .before .before .before .before .before .before .before .before .before .before .before .before .before .before .before .before .before .before .before .before .before .before .before .before .before .before .before .before .before .before .before .before .before .pre .0 .2) some _ (c .before .before .before .before .before .before .before .before .before .before .before .before .before .before .before .before .before .before .before .before .before .before .before .before .before .before .before .before .before .before .before .before .before .before .known-at .ensures _ (in-form (l .inv .3 es s) some)) _ _ _ _ _ _ _ _ _ _
+    (c .before .before .before .before .before .before .before .before .before .before .before .before .before .before .before .before .before .before .before .before .before .before .before .one-record .ensures .1) (c .before .next2 .given .1)
 
 add-number : tie.Need-add-number Inv-loop μ-loop
 add-number c = omega (arith, c .before .before .before .before .before .before .before .before .before .before .before .before .before .before .before .before .before .before .before .before .before .before .before .before .before .before .before .before .before .before .before .before .before .before .before .before .loop .inv .1, c .before .before .before .before .before .before .before .before .before .before .before .before .before .before .before .before .before .before .before .before .before .before .before .before .before .before .before .before .before .before .before .before .before .before .before .before .before .before .before .before .before .before .before .before .before .before .before .before .pre .0 .5)

@@ -39,16 +39,16 @@ returns-2 c =
     let b = c .before .before .before .before .before .before .before .before .before .before in
     let a = b .args in
     λ s u k i g.
-        early-wrong i s u k (λ t. let l = bar-is s u k (a .sessions .now) (a .versions .now) (a .views .now) (a .values .now) (a .client) (a .session) (a .ranks) (a .n) g (b .pre .1) .0 t in omega arith)
-          _ (sym (c .before .before .before .wrong-read .ensures s u k (g .given)) ∙ ap placeOf (c .before .wrong .given .1))
+    early-wrong i s u k (λ t. let l = bar-is s u k (a .sessions .now) (a .versions .now) (a .views .now) (a .values .now) (a .client) (a .session) (a .ranks) (a .n) g (b .pre .1) .0 t in omega arith)
+    _ (sym (c .before .before .before .wrong-read .ensures s u k (g .given)) ∙ ap placeOf (c .before .wrong .given .1))
 
 returns-3 : tie.Need-returns-3
 returns-3 c =
     let b = c .before .before .before .before .before .before .before .before .before in
     let a = b .args in
     λ s u k i g.
-        early-none i s u k (λ t. let l = bar-is s u k (a .sessions .now) (a .versions .now) (a .views .now) (a .values .now) (a .client) (a .session) (a .ranks) (a .n) g (b .pre .1) .0 t in omega arith)
-          (sym (c .before .before .wrong-read .ensures s u k (g .given)) ∙ ap placeOf (c .enum-told .given .1))
+    early-none i s u k (λ t. let l = bar-is s u k (a .sessions .now) (a .versions .now) (a .views .now) (a .values .now) (a .client) (a .session) (a .ranks) (a .n) g (b .pre .1) .0 t in omega arith)
+    (sym (c .before .before .wrong-read .ensures s u k (g .given)) ∙ ap placeOf (c .enum-told .given .1))
 
 pub early-spec : {M : Type 1} → statement M
 early-spec =

@@ -34,10 +34,11 @@ returns c =
     let a = c .before .before .before .before .before .before .before .before .before .before .before .before .before .before .before .before .before .before .before .before .before .before .before .before .args in
     let b = c .before .before .before .before .before .before .before .begin in
     λ g clients fs r number small verdicts.
-      let h = b .ensures g clients (a .number) (a .keys .now) (a .seen .now) (a .commits .now) (a .links .now) r small in
-      ( refused-early (a .number) g _ _ (sym (ap (outcomeOf (a .number)) (c .before .first .given .1)) ∙ h .answer)
-      , h .operations .value-fits
-      , λ taken. not-taken _ refl taken )
+    let h = b .ensures g clients (a .number) (a .keys .now) (a .seen .now) (a .commits .now) (a .links .now) r small in (
+      refused-early (a .number) g _ _ (sym (ap (outcomeOf (a .number)) (c .before .first .given .1)) ∙ h .answer),
+      h .operations .value-fits,
+      λ taken. not-taken _ refl taken,
+    )
 
 enum-told : tie.Need-enum-told
 enum-told c = search needs
@@ -83,11 +84,12 @@ returns-2 c =
     let b = c .before .before .before .before .before .before .before .before .before .before .before .before .before .before .before .before .before .before .before .before .before .before .before .before .before .before .before .before .before .before .before .before .before .begin in
     let z = c .before .before .before .before .before .before .before .before .before .before .before .before .before .before .before .before .complete in
     λ g clients fs r number small verdicts.
-      let h = b .ensures g clients (a .number) (a .keys .now) (a .seen .now) (a .commits .now) (a .links .now) r small in
-      let n = taken-early (a .number) g _ _ (c .before .before .before .before .before .before .before .before .before .before .before .before .before .before .before .before .before .before .before .before .before .before .before .before .before .before .before .enum-told .given .1) (h .answer) in
-      ( answered-late (a .number) g _ n _ (z .ensures .0 g _ clients (a .number) r refl refl number (h .operations) (h .masks) n)
-      , h .operations .value-fits
-      , λ taken. z .ensures .1 g _ clients fs r refl refl number (h .operations) (h .masks) n verdicts taken )
+    let h = b .ensures g clients (a .number) (a .keys .now) (a .seen .now) (a .commits .now) (a .links .now) r small in
+    let n = taken-early (a .number) g _ _ (c .before .before .before .before .before .before .before .before .before .before .before .before .before .before .before .before .before .before .before .before .before .before .before .before .before .before .before .enum-told .given .1) (h .answer) in (
+      answered-late (a .number) g _ n _ (z .ensures .0 g _ clients (a .number) r refl refl number (h .operations) (h .masks) n),
+      h .operations .value-fits,
+      λ taken. z .ensures .1 g _ clients fs r refl refl number (h .operations) (h .masks) n verdicts taken,
+    )
 
 pub commit-to-spec : {M : Type 1} → statement M
 commit-to-spec =

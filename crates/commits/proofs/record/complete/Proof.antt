@@ -64,29 +64,31 @@ returns c =
     let a = b .args in
     let m = c .before .before .before .before .before .before .before .before .before .before .before .before .before .before .before .before .before .before .before .make in
     let z = c .before .before .before .before .late in
-    let p = c .before .before .before .before .before .before .before .before .before .before .before .before .before .before .before .before .before .before .before .before .before .before .before .before .before .before .before .before .before .before .before .before .before .before .before .before .adds-own in
-    ( λ g k clients i r own session number o f early.
-        let made = m .ensures (g .store) (viewBefore g k) k
-            (commit-given g k clients (a .n) (a .versions .now) (a .keys .now) (a .views .now) (a .seen .now) (a .sessions .now) (a .commits .now) (a .links .now) (a .values .now) (a .fresh .now) (a .client) (a .ranks) r own o f i early)
-            number session (r .keeps .in-commits) (r .keeps .in-links) in
-        z .ensures .0 g k (a .values .now) i
+    let p = c .before .before .before .before .before .before .before .before .before .before .before .before .before .before .before .before .before .before .before .before .before .before .before .before .before .before .before .before .before .before .before .before .before .before .before .before .adds-own in (
+      λ g k clients i r own session number o f early.
+          let made = m .ensures (g .store) (viewBefore g k) k
+          (commit-given g k clients (a .n) (a .versions .now) (a .keys .now) (a .views .now) (a .seen .now) (a .sessions .now) (a .commits .now) (a .links .now) (a .values .now) (a .fresh .now) (a .client) (a .ranks) r own o f i early)
+          number session (r .keeps .in-commits) (r .keeps .in-links) in
+          z .ensures .0 g k (a .values .now) i
           (late-given g k clients (a .n) (a .versions .now) (a .keys .now) (a .views .now) (a .seen .now) (a .sessions .now) (a .commits .now) (a .links .now) (a .values .now) (a .fresh .now) (a .client) (a .ranks) r own o f i early
-            (m .last .0) (m .last .1 .0) (m .last .1 .1 .1 .0) (m .last .1 .1 .1 .1 .0) (m .last .1 .1 .1 .1 .1 .0) made)
-          number (plain-is g k clients (a .n) (a .versions .now) (a .keys .now) (a .views .now) (a .seen .now) (a .sessions .now) (a .commits .now) (a .links .now) (a .values .now) (a .fresh .now) (a .client) (a .ranks) r own o f i early (p .result) (p .ensures))
-    , λ g k clients fs r own session number o f early verdicts taken.
-        let made = m .ensures (g .store) (viewBefore g k) k
-            (commit-given g k clients (a .n) (a .versions .now) (a .keys .now) (a .views .now) (a .seen .now) (a .sessions .now) (a .commits .now) (a .links .now) (a .values .now) (a .fresh .now) (a .client) (a .ranks) r own o f (a .number) early)
-            number session (r .keeps .in-commits) (r .keeps .in-links) in
-        let adds = plain-is g k clients (a .n) (a .versions .now) (a .keys .now) (a .views .now) (a .seen .now) (a .sessions .now) (a .commits .now) (a .links .now) (a .values .now) (a .fresh .now) (a .client) (a .ranks) r own o f (a .number) early (p .result) (p .ensures) in
-        let given = late-given g k clients (a .n) (a .versions .now) (a .keys .now) (a .views .now) (a .seen .now) (a .sessions .now) (a .commits .now) (a .links .now) (a .values .now) (a .fresh .now) (a .client) (a .ranks) r own o f (a .number) early
-            (m .last .0) (m .last .1 .0) (m .last .1 .1 .1 .0) (m .last .1 .1 .1 .1 .0) (m .last .1 .1 .1 .1 .1 .0) made in
-        ( kept-after g k clients (a .n) (a .versions .now) (a .keys .now) (a .views .now) (a .seen .now) (a .sessions .now) (a .commits .now) (a .links .now) (a .values .now) (a .fresh .now) (a .client) (a .ranks) r own o f (a .number) early
-            (m .last .0) (m .last .1 .0) (m .last .1 .1 .1 .0) (m .last .1 .1 .1 .1 .0) (m .last .1 .1 .1 .1 .1 .0) made (z .last .1 .1 .1 .0) (z .last .1 .1 .1 .1 .0)
-            (z .ensures .1 g k (a .values .now) given number adds taken)
-        , noted g k (a .number) fs (c .before .before .before .before .before .before .before .before .before .before .before .before .before .before .before .before .before .before .before .before .before .before .before .before .before .before .before .before .judge .last .0)
-            (c .before .before .before .before .before .before .before .before .before .before .before .before .before .before .before .before .before .before .before .before .before .before .before .before .before .before .before .before .judge .ensures (g .store) (viewBefore g k) k (a .values .now) fs
-              (before-commit g k clients (a .n) (a .versions .now) (a .keys .now) (a .views .now) (a .seen .now) (a .sessions .now) (a .commits .now) (a .links .now) (a .values .now) (a .fresh .now) (a .client) (a .ranks) r own o f (a .number) early adds)
-              verdicts) ) )
+          (m .last .0) (m .last .1 .0) (m .last .1 .1 .1 .0) (m .last .1 .1 .1 .1 .0) (m .last .1 .1 .1 .1 .1 .0) made)
+          number (plain-is g k clients (a .n) (a .versions .now) (a .keys .now) (a .views .now) (a .seen .now) (a .sessions .now) (a .commits .now) (a .links .now) (a .values .now) (a .fresh .now) (a .client) (a .ranks) r own o f i early (p .result) (p .ensures)),
+      λ g k clients fs r own session number o f early verdicts taken.
+          let made = m .ensures (g .store) (viewBefore g k) k
+          (commit-given g k clients (a .n) (a .versions .now) (a .keys .now) (a .views .now) (a .seen .now) (a .sessions .now) (a .commits .now) (a .links .now) (a .values .now) (a .fresh .now) (a .client) (a .ranks) r own o f (a .number) early)
+          number session (r .keeps .in-commits) (r .keeps .in-links) in
+          let adds = plain-is g k clients (a .n) (a .versions .now) (a .keys .now) (a .views .now) (a .seen .now) (a .sessions .now) (a .commits .now) (a .links .now) (a .values .now) (a .fresh .now) (a .client) (a .ranks) r own o f (a .number) early (p .result) (p .ensures) in
+          let given = late-given g k clients (a .n) (a .versions .now) (a .keys .now) (a .views .now) (a .seen .now) (a .sessions .now) (a .commits .now) (a .links .now) (a .values .now) (a .fresh .now) (a .client) (a .ranks) r own o f (a .number) early
+          (m .last .0) (m .last .1 .0) (m .last .1 .1 .1 .0) (m .last .1 .1 .1 .1 .0) (m .last .1 .1 .1 .1 .1 .0) made in (
+            kept-after g k clients (a .n) (a .versions .now) (a .keys .now) (a .views .now) (a .seen .now) (a .sessions .now) (a .commits .now) (a .links .now) (a .values .now) (a .fresh .now) (a .client) (a .ranks) r own o f (a .number) early
+                (m .last .0) (m .last .1 .0) (m .last .1 .1 .1 .0) (m .last .1 .1 .1 .1 .0) (m .last .1 .1 .1 .1 .1 .0) made (z .last .1 .1 .1 .0) (z .last .1 .1 .1 .1 .0)
+                (z .ensures .1 g k (a .values .now) given number adds taken),
+            noted g k (a .number) fs (c .before .before .before .before .before .before .before .before .before .before .before .before .before .before .before .before .before .before .before .before .before .before .before .before .before .before .before .before .judge .last .0)
+                (c .before .before .before .before .before .before .before .before .before .before .before .before .before .before .before .before .before .before .before .before .before .before .before .before .before .before .before .before .judge .ensures (g .store) (viewBefore g k) k (a .values .now) fs
+                (before-commit g k clients (a .n) (a .versions .now) (a .keys .now) (a .views .now) (a .seen .now) (a .sessions .now) (a .commits .now) (a .links .now) (a .values .now) (a .fresh .now) (a .client) (a .ranks) r own o f (a .number) early adds)
+                verdicts),
+          ),
+    )
 
 pub complete-spec : {M : Type 1} → statement M
 complete-spec =
