@@ -2,9 +2,9 @@
 -- cases" (01, Which shape goes where). Assumes nothing.
 use Prim.Native.Nat.{ℕ, _+_, _*_, _≤_, _<_}
 use mathlib.Core.Path.{_≡_}
-use mathlib.Core.Bool.{true}
+use mathlib.Core.Bool.{Bool, true, false}
 use mathlib.Core.List.{List}
-use lib.Dec.{ltb}
+use lib.Dec.{ltb, leb, eqb}
 use lib.ListN.{length}
 use Rattle.search.specs.Choose.{choose}
 use Rattle.store.specs.Limits.{maxKeys, maxClients, maxCommits, minBytes}
@@ -20,8 +20,8 @@ use Rattle.trace.specs.declared.records.Record.the-variants.{Shift, Comm
 use Rattle.trace.specs.declared.form.Header.{Header}
 use Rattle.trace.specs.declared.form.Form.{Form}
 use Rattle.trace.specs.declared.form.Form.the-variants.{Whole, Misshapen}
-use Rattle.trace.specs.declared.form.Step.{Step}
-use Rattle.trace.specs.declared.form.Step.the-variants.{Next, Stop}
+use Rattle.trace.specs.declared.form.Pass.{Pass}
+use Rattle.trace.specs.declared.form.Pass.the-variants.{Going, Stopped}
 
 -- the bench code of a record that is refused
 abbrev pub whyNumber : Why → ℕ
@@ -29,6 +29,12 @@ whyNumber Length = 3
 whyNumber Kind = 4
 whyNumber Client = 6
 whyNumber Body = 7
+
+-- where the record after this one starts; one that is refused has none after it, and it is its own place
+abbrev pub placeAfter : Record → ℕ → ℕ
+placeAfter (Shift client masks next) at = next
+placeAfter (Commit client count session operations masks next) at = next
+placeAfter (Refused w) at = at
 
 -- the record of a file s of so many keys that the code's answer stands for
 unfoldable pub meaning : List ℕ → ℕ → Record → Format.Record
@@ -61,16 +67,28 @@ pub record InFormAt (s : List ℕ) (at keys clients : ℕ) : Type 0 where
 
 -- ---- all records
 
--- what a record leads to where there were so many commits before it; code 8: "a 64th commit"
-unfoldable pub stepOf : Record → ℕ → Step
-stepOf (Shift client masks next) commits = Next next commits
-stepOf (Commit client count session operations masks next) commits = choose (ltb commits maxCommits) (Next next (commits + 1)) (Stop 8)
-stepOf (Refused w) commits = Stop (whyNumber w)
+-- a record is left to read
+abbrev pub goesOn : Pass → ℕ → Bool
+goesOn (Going index commits) count = leb index count
+goesOn (Stopped code n) count = false
 
--- the code of a refusal, and 0 where there is none
-abbrev pub stopCode : Step → ℕ
-stopCode (Next at commits) = 0
-stopCode (Stop code) = code
+-- the number of the record that is next, or that is refused
+abbrev pub standsAt : Pass → ℕ
+standsAt (Going index commits) = index
+standsAt (Stopped code n) = n
+
+-- what a record leads to; code 8: "a 64th commit"
+unfoldable pub passAfter : Pass → Record → Pass
+passAfter (Stopped code n) r = Stopped code n
+passAfter (Going index commits) (Shift client masks next) = Going (index + 1) commits
+passAfter (Going index commits) (Commit client count session operations masks next) =
+    choose (ltb commits maxCommits) (Going (index + 1) (commits + 1)) (Stopped 8 index)
+passAfter (Going index commits) (Refused w) = Stopped (whyNumber w) index
+
+-- the form of a file of len bytes after the pass, which ended at a place of it; code 5: "bytes left after the counted records"
+abbrev pub formAfter : Header → Pass → ℕ → ℕ → Form
+formAfter h (Stopped code n) at len = Misshapen code n
+formAfter h (Going index commits) at len = choose (eqb at len) (Whole h) (Misshapen 5 (h .records))
 
 abbrev pub headerOf : Header → Format.Header
 headerOf h = record { keys = h .keys; clients = h .clients; records = h .records }

@@ -6,7 +6,7 @@ ghost use lib.ListN.{length};
 ghost use Rattle.search.specs.Choose.{choose};
 ghost use Rattle.store.specs.Limits.{maxKeys};
 ghost use Rattle.trace.specs.Format.{rankAt, operationFits, operationsFit, shiftAt, commitOf, commitAt};
-ghost use Rattle.trace.specs.Meaning.{whyNumber, Answers, RecordSays, InFormAt};
+ghost use Rattle.trace.specs.Meaning.{whyNumber, placeAfter, Answers, RecordSays, InFormAt};
 
 // Why a record is refused; whyNumber gives the code.
 pub enum Why {
@@ -43,6 +43,28 @@ pub fn number(w: Why) -> usize
         Why::Kind => 4,
         Why::Client => 6,
         Why::Body => 7,
+    }
+}
+
+// Where the record after this one starts. A record that is refused has none after it: its own place is answered.
+pub fn place_after(r: Record, at: usize) -> usize
+    ensures { λ n. ⌜ n ≡ placeAfter r at ⌝ }
+{
+    match r {
+        Record::Shift {
+            client: _,
+            masks: _,
+            next,
+        } => next,
+        Record::Commit {
+            client: _,
+            count: _,
+            session: _,
+            operations: _,
+            masks: _,
+            next,
+        } => next,
+        Record::Refused(_) => at,
     }
 }
 
