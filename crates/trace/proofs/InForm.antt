@@ -13,7 +13,7 @@ use Rattle.search.specs.Choose.{need}
 use Rattle.search.proofs.Choose.{choose-ind, need-taken}
 use Rattle.search.proofs.Steps.{need-met, need-unmet}
 use Rattle.search.proofs.Tests.{true-T, eq-is, lt-is, not-is}
-use Rattle.endian.specs.Endian.{Bytes, leAt}
+use Rattle.endian.specs.Endian.{leAt}
 use Rattle.store.specs.Limits.{maxCommits, minBytes, maxBytes}
 use Rattle.store.specs.Store.{Event}
 use Rattle.store.specs.Refusal.{Refusal, refuse}
@@ -29,7 +29,6 @@ use Rattle.trace.specs.declared.form.Form.the-variants.{Whole, Misshapen
 use Rattle.trace.specs.declared.form.Pass.{Pass}
 use Rattle.trace.specs.declared.form.Pass.the-variants.{Going, Stopped}
 use Rattle.trace.proofs.Tests.{withinLimits-is}
-use Rattle.trace.proofs.Decoded.{ReadAt, record-read}
 
 -- ---- answers that follow from answers
 

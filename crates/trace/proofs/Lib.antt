@@ -9,3 +9,4 @@ pub mod InForm
 pub mod Known
 pub mod Filled
 pub mod Ranks
+pub mod Lent
