@@ -6,6 +6,7 @@ pub mod EncodeBytes
 pub mod RoundTrip
 pub mod Fits
 pub mod InForm
+pub mod Pass
 pub mod Known
 pub mod Filled
 pub mod Ranks

@@ -1,6 +1,6 @@
 -- `trace::form::records_form` meets its contract: a walk of its MIR by hand, of a loop over a reader. The reader is made once, before the loop. In a turn it is lent for
 -- a lifetime that the walk makes within the file's, `next` is called, the lifetime is ended, and the reader comes back where `next` left it. All that is known of
--- the pass is in `InForm.antt`: what it says at its place (the invariant), and that fewer records are left after a turn (the variant). Assumes nothing.
+-- the pass is in `Pass.antt`: what it says at its place (the invariant), and that fewer records are left after a turn (the variant). Assumes nothing.
 use mathlib.Core.Path.{_≡_, refl, sym, ap, _∙_}
 use mathlib.Core.Bool.{Bool, true, false}
 use mathlib.Core.WellFounded.{WellFounded, InvImage·wf}
@@ -54,7 +54,7 @@ use Rattle.trace.specs.declared.form.Header.{Header}
 use Rattle.trace.specs.declared.form.Form.{Form}
 use Rattle.trace.specs.declared.form.Pass.{Pass}
 use Rattle.trace.specs.declared.form.Pass.the-variants.{Going}
-use Rattle.trace.proofs.InForm.{PassSays, toRead, pass-begins, pass-within, pass-after, pass-ends}
+use Rattle.trace.proofs.Pass.{PassSays, toRead, pass-begins, pass-within, pass-after, pass-ends}
 use Rattle.trace.proofs.Lent as L
 use Rattle.trace.proofs.reader.Reader as T
 use Rattle.trace.proofs.reader.Reader.Laws as T′
