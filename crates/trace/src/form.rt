@@ -4,10 +4,10 @@ ghost use Prim.Native.Nat.{_≤_, _<_};
 ghost use lib.ListN.{length};
 ghost use Rattle.store.specs.Limits.{maxKeys, minBytes};
 ghost use Rattle.trace.specs.Format.{withinLimits};
-ghost use Rattle.trace.specs.Meaning.{stepOf, stopCode, headerOf, AllRecordsSay, FormSays};
+ghost use Rattle.trace.specs.Meaning.{headerOf, AllRecordsSay, FormSays};
 use crate::reader;
 use crate::records;
-use crate::records::Record;
+use crate::records::Reading;
 
 // "keys u8, clients u8, count u16 of records that follow"
 pub struct Header {
@@ -22,53 +22,8 @@ pub enum Form {
     Misshapen { code: usize, record: usize },
 }
 
-// Where the record after this one starts and how many commits there are up to it, or the code with which the file is refused.
-pub enum Step {
-    Next { at: usize, commits: usize },
-    Stop(usize),
-}
-
-// What a record leads to where there were so many commits before it; code 8: "a 64th commit".
-fn step_of(r: Record, commits: usize) -> Step
-    ensures { λ t. ⌜ t ≡ stepOf r commits ⌝ }
-{
-    match r {
-        Record::Shift {
-            client: _,
-            masks: _,
-            next,
-        } => Step::Next { at: next, commits },
-        Record::Commit {
-            client: _,
-            count: _,
-            session: _,
-            operations: _,
-            masks: _,
-            next,
-        } => {
-            if store::Store::COMMITS <= commits {
-                return Step::Stop(8);
-            }
-            Step::Next {
-                at: next,
-                commits: commits + 1,
-            }
-        }
-        Record::Refused(w) => Step::Stop(records::number(w)),
-    }
-}
-
-// The code of a refusal, and 0 where there is none.
-fn stop_code(t: Step) -> usize
-    ensures { λ r. ⌜ r ≡ stopCode t ⌝ }
-{
-    match t {
-        Step::Next { at: _, commits: _ } => 0,
-        Step::Stop(code) => code,
-    }
-}
-
-// "form over all records in turn", each read whole or the file refused there, then code 5: "bytes left after the counted records".
+// "form over all records in turn", each read whole or the file refused there; within one, code 8 last: "a 64th commit"; then code 5:
+// "bytes left after the counted records".
 fn records_form(s: &[u8], h: Header) -> Form
     requires { ⌜ (minBytes ≤ length (now s)) × (h .keys ≤ maxKeys) × (h .records < 65536) ⌝ }
     ensures { λ r. ⌜ AllRecordsSay (now (s .entry)) h r ⌝ }
@@ -78,19 +33,21 @@ fn records_form(s: &[u8], h: Header) -> Form
     let mut commits: usize = 0;
     let mut left = h.records;
     while 0 < left {
-        let step = step_of(reader::record_from(s, at, h.keys, h.clients), commits);
-        let Step::Next {
-            at: next,
-            commits: count,
-        } = step
-        else {
+        let reading = reader::record_from(s, at, h.keys, h.clients);
+        let Reading::Whole { record, next } = reading else {
             return Form::Misshapen {
-                code: stop_code(step),
+                code: records::refusal(reading),
                 record: index,
             };
         };
+        commits = records::commits_with(record, commits);
+        if store::Store::COMMITS < commits {
+            return Form::Misshapen {
+                code: 8,
+                record: index,
+            };
+        }
         at = next;
-        commits = count;
         index = index + 1;
         left = left - 1;
     }

@@ -6,7 +6,7 @@ ghost use lib.ListN.{length};
 ghost use Rattle.store.specs.Limits.{maxKeys};
 ghost use Rattle.trace.specs.Meaning.{RecordSays};
 use crate::records;
-use crate::records::Record;
+use crate::records::Reading;
 
 pub struct Reader<'a> {
     pub src: &'a [u8],
@@ -21,7 +21,7 @@ pub fn new<'a>(src: &'a [u8], at: usize) -> Reader<'a>
 }
 
 // The record at the reader's place.
-pub fn next<'a>(r: Reader<'a>, keys: usize, clients: usize) -> Record
+pub fn next<'a>(r: Reader<'a>, keys: usize, clients: usize) -> Reading
     requires { ⌜ (r .at ≤ length (now (r .src))) × (keys ≤ maxKeys) ⌝ }
     ensures { λ x. ⌜ RecordSays (now (r .entry .src)) (r .entry .at) keys clients x ⌝ }
 {
@@ -29,7 +29,7 @@ pub fn next<'a>(r: Reader<'a>, keys: usize, clients: usize) -> Record
 }
 
 // The record at a place of a file, by a reader made there. Where it ends the next one starts.
-pub fn record_from(s: &[u8], at: usize, keys: usize, clients: usize) -> Record
+pub fn record_from(s: &[u8], at: usize, keys: usize, clients: usize) -> Reading
     requires { ⌜ (at ≤ length (now s)) × (keys ≤ maxKeys) ⌝ }
     ensures { λ x. ⌜ RecordSays (now (s .entry)) at keys clients x ⌝ }
 {

@@ -42,11 +42,11 @@ use denote.Triple.Clauses.{ensured, lasts}
 use Rattle.store.specs.Limits.{maxKeys}
 use Rattle.trace.specs.Meaning.{RecordSays}
 use Rattle.trace.specs.declared.reader.Reader.{Reader}
-use Rattle.trace.specs.declared.records.Record.{Record}
+use Rattle.trace.specs.declared.records.Reading.{Reading}
 use Rattle.trace.proofs.reader.Reader as T
 use Rattle.trace.proofs.reader.Reader.Laws as T′
-use Rattle.trace.proofs.records.Record as S
-use Rattle.trace.proofs.records.Record.Laws as S′
+use Rattle.trace.proofs.records.Reading as S
+use Rattle.trace.proofs.records.Reading.Laws as S′
 use Rattle.trace.proofs.reader.new as new
 use Rattle.trace.proofs.reader.new.Symbol as new-def
 use Rattle.trace.proofs.reader.new.Symbol.{name as #new}
@@ -81,11 +81,11 @@ module _ {M : Type 1} (𝓤 : URA M) (H : Heap 𝓤) (A : Atoms 𝓤) (W : Given
   v = sliceVal (s .ptr) (length (s .now))
 
   -- what is said of the record that is found
-  abbrev Found : Record → Type 0
+  abbrev Found : Reading → Type 0
   Found t = RecordSays (now s) n k c t
 
   -- the same by a reader, and what holds of the one that `new` makes
-  abbrev FoundBy : Reader → Record → Type 0
+  abbrev FoundBy : Reader → Reading → Type 0
   FoundBy r t = RecordSays (now (r .src)) (r .at) k c t
 
   abbrev Made : Reader → Type 0
@@ -94,7 +94,7 @@ module _ {M : Type 1} (𝓤 : URA M) (H : Heap 𝓤) (A : Atoms 𝓤) (W : Given
   made-within : (r : Reader) → Made r → (r .at ≤ length (now (r .src))) × (k ≤ maxKeys)
   made-within r e = rw (e .0, e .1) within
 
-  made-found : (r : Reader) → Made r → (t : Record) → FoundBy r t → Found t
+  made-found : (r : Reader) → Made r → (t : Reading) → FoundBy r t → Found t
   made-found r e t x = rw (e .0, e .1) at x
 
   abbrev vals : Vals record-from.signature (κ, tt)
@@ -133,10 +133,10 @@ module _ {M : Type 1} (𝓤 : URA M) (H : Heap 𝓤) (A : Atoms 𝓤) (W : Given
       qed W (‵ (B (κ, tt) .own r (u ∷ [])) ∷ (‵ (flft κ q) ⊛ ‵ ftrue) ∷ []) ∵ nothing ! $ owned ! usize (Is usize) (uint-makes 𝓤 H A W w64) c _ (refl, okc) $ fjoin ! $ owned ! usize (Is usize) (uint-makes 𝓤 H A W w64) k _ (refl, okk) $ fjoin ! $ move ! (1 ∷ 0 ∷ []) $ fjoin ! $ move ! (1 ∷ 0 ∷ []) $
       says ! (made-within r e) $ frame ! $ done !
 
-  next-said : (r : Reader) (t : Record) → ent 𝓤 (ensured 𝓤 H A next.ended (next.clauses 𝓤 H A mem run) (κ, tt) (r, (k, (c, tt))) tt t) (fact 𝓤 (FoundBy r t))
+  next-said : (r : Reader) (t : Reading) → ent 𝓤 (ensured 𝓤 H A next.ended (next.clauses 𝓤 H A mem run) (κ, tt) (r, (k, (c, tt))) tt t) (fact 𝓤 (FoundBy r t))
   next-said r t = exE 𝓤 _ (λ ws. snd∗ 𝓤 (sem 𝓤 H A (lasts next.ended (κ, tt) (r, (k, (c, tt))) ws)) (fact 𝓤 (FoundBy r t)))
 
-  exits : (t : Record) (u : Val) → Found t → ent 𝓤 (⋆ 𝓤 H A (‵ (S.the-row .own t (u ∷ [])) ∷ (‵ (flft κ q) ⊛ ‵ ftrue) ∷ ‵ Own ∷ [])) (Post u)
+  exits : (t : Reading) (u : Val) → Found t → ent 𝓤 (⋆ 𝓤 H A (‵ (S.the-row .own t (u ∷ [])) ∷ (‵ (flft κ q) ⊛ ‵ ftrue) ∷ ‵ Own ∷ [])) (Post u)
   exits t u e =
       qed W (‵ (S.the-row .own t (u ∷ [])) ∷ (‵ (flft κ q) ⊛ ‵ ftrue) ∷ ‵ Own ∷ []) ∵
       suffices ! _ (ends-at 𝓤 H A record-from.ended stayed (record-from.clauses 𝓤 H A mem run) W (((κ, tt), (q, tt), tt, (s, (n, (k, (c, tt)))), vals), tt) u t (tt, (tt, (tt, (tt, tt)))) (tt, (tt, (tt, (tt, tt))))) $ says ! e $
@@ -156,7 +156,7 @@ module _ {M : Type 1} (𝓤 : URA M) (H : Heap 𝓤) (A : Atoms 𝓤) (W : Given
         land ! (from ! (stop !)) (init ! 3 refl (LL.lawful (T.the-type αᵉ) (T′.the-laws αᵉ) 𝓤 H A W .typed r _ is .0)) $
         use2 W (raw (Next 𝓤 H A mem run .pre (to-next r u))) (goes-next r u e) $
         calls-at ! fm (Next 𝓤 H A mem run) known-next (to-next r u) (and-then ! (load ! (from ! (stop !)) (look ! 2 refl)) (and-then ! (load ! (from ! (stop !)) (look ! 6 refl)) (and-then ! (load ! (from ! (stop !)) (look ! 4 refl)) (no-more !)))) (λ u′.
-        use1 W (later (some (λ (t : Record). ((‵ (flft κ q) ⊛ ‵ ftrue) ⊛ ‵ (S.the-row .own t (u′ ∷ []))) ⊛ raw (ensured 𝓤 H A next.ended (next.clauses 𝓤 H A mem run) (κ, tt) (r, (k, (c, tt))) tt t)))) (id⊢ 𝓤 _) $ await ! tt $ pick ! (λ t.
+        use1 W (later (some (λ (t : Reading). ((‵ (flft κ q) ⊛ ‵ ftrue) ⊛ ‵ (S.the-row .own t (u′ ∷ []))) ⊛ raw (ensured 𝓤 H A next.ended (next.clauses 𝓤 H A mem run) (κ, tt) (r, (k, (c, tt))) tt t)))) (id⊢ 𝓤 _) $ await ! tt $ pick ! (λ t.
         split ! $ move ! (1 ∷ []) $ use1 W (raw (fact 𝓤 (FoundBy r t))) (next-said r t) $ heard ! (FoundBy r t) (λ e′. split ! $ move ! (1 ∷ []) $
         -- [the result; the token; what s owns; _2; …; _1; …; room for _0; …]
         peeks ! S.the-row (Is S.the-row) (shows 𝓤 H A S.the-row) t (u′ ∷ []) (λ is′.
