@@ -13,16 +13,15 @@ use Rattle.search.proofs.Steps.{need-met}
 use Rattle.search.proofs.Tests.{true-T}
 use Rattle.endian.specs.Endian.{leAt}
 use Rattle.store.specs.Limits.{maxCommits, minBytes, maxBytes}
-use Rattle.store.specs.Store.{Event}
 use Rattle.store.specs.Refusal.{Refusal}
 use Rattle.trace.specs.Result.{Result, refused, taken, onTaken}
+use Rattle.trace.specs.Entry.{Entry}
 use Rattle.trace.specs.Format as Format
-use Rattle.trace.specs.Format.{misshapen, whole, recordAt, commitsWith, onRecord, eventsFrom, headerAt, withinLimits, decode}
-use Rattle.trace.specs.Meaning.{meaning, InFormAt, headerOf, AllRecordsSay, FormSays}
-use Rattle.trace.specs.declared.records.Record.{Record}
+use Rattle.trace.specs.Format.{misshapen, whole, recordAt, commitsWith, onRecord, entriesFrom, headerAt, withinLimits, traceOf, decode}
+use Rattle.trace.specs.Meaning.{InFormAt, headerOf, AllRecordsSay, FormSays}
 use Rattle.trace.specs.declared.form.Header.{Header}
 use Rattle.trace.specs.declared.form.Form.{Form}
-use Rattle.trace.specs.declared.form.Form.the-variants.{Whole, Misshapen}
+use Rattle.trace.specs.declared.form.Form.the-variants as Forms
 use Rattle.trace.proofs.Tests.{withinLimits-is}
 
 -- ---- answers that follow from answers
@@ -59,54 +58,45 @@ unfolding onTaken
 onTaken-taken (refused r) f e = absurd (not-taken e)
 onTaken-taken (taken a) f e = (a, refl, e)
 
-onRecord-taken : {A : Type 0} (x : Format.Record) (n commits : ℕ) (f : Event → ℕ → ℕ → Result A) {a : A} → onRecord x n commits f ≡ taken a
-    → (e : Event) × (next : ℕ) × (x ≡ whole e next) × (commitsWith e commits ≤ maxCommits) × (f e next (commitsWith e commits) ≡ taken a)
+onWhole-taken : {A : Type 0} (x : Entry) (next n commits : ℕ) (f : Entry → ℕ → ℕ → Result A) {a : A} → onRecord (whole x next) n commits f ≡ taken a
+    → (commitsWith x commits ≤ maxCommits) × (f x next (commitsWith x commits) ≡ taken a)
+unfolding onRecord
+onWhole-taken x next n commits f e = let (few, rest) = need-taken (leb (commitsWith x commits) maxCommits) _ _ not-taken e in (leb→le _ _ few, rest)
+
+onRecord-taken : {A : Type 0} (r : Format.Reading) (n commits : ℕ) (f : Entry → ℕ → ℕ → Result A) {a : A} → onRecord r n commits f ≡ taken a
+    → (x : Entry) × (next : ℕ) × (r ≡ whole x next)
 unfolding onRecord
 onRecord-taken (misshapen code) n commits f e = absurd (not-taken e)
-onRecord-taken (whole event next) n commits f e =
-    let (few, rest) = need-taken (leb (commitsWith event commits) maxCommits) _ _ not-taken e in (event, next, refl, leb→le _ _ few, rest)
+onRecord-taken (whole x next) n commits f e = (x, next, refl)
 
--- the first of the records es, which the answer r stands for, and the others
-pub record First (s : List ℕ) (h : Format.Header) (index commits left : ℕ) (r : Record) (es : List Event) : Type 0 where
-  pub event : Event
-  pub next : ℕ
-  pub others : List Event
-  pub is-first : es ≡ event ∷ others
-  pub read : meaning s (h .keys) r ≡ whole event next
-  pub few-commits : commitsWith event commits ≤ maxCommits
-  pub others-read : eventsFrom s h (left - 1) next (index + 1) (commitsWith event commits) ≡ taken others
+-- record x, after which the next one starts at `next`, is the first of the records rs, and the others are read from there on
+pub record First (s : List ℕ) (h : Format.Header) (index commits left : ℕ) (x : Entry) (next : ℕ) (rs : List Entry) : Type 0 where
+  pub others : List Entry
+  pub is-first : rs ≡ x ∷ others
+  pub few-commits : commitsWith x commits ≤ maxCommits
+  pub others-read : entriesFrom s h (left - 1) next (index + 1) (commitsWith x commits) ≡ taken others
 
-module _ (s : List ℕ) (h : Format.Header) (at index commits left : ℕ) {es : List Event} (some : 0 < left) (read : eventsFrom s h left at index commits ≡ taken es) where
-  first-whole : (e : Event) × (next : ℕ) × (recordAt s h at ≡ whole e next) × (commitsWith e commits ≤ maxCommits)
-      × (onTaken (eventsFrom s h (left - 1) next (suc index) (commitsWith e commits)) (λ others. taken (e ∷ others)) ≡ taken es)
-  unfolding eventsFrom
-  first-whole =
-      let more : left ≡ suc (left - 1) = omega arith in
-      onRecord-taken (recordAt s h at) index commits _ (ap (λ n. eventsFrom s h n at index commits) (sym more) ∙ read)
+module _ (s : List ℕ) (h : Format.Header) (at index commits left : ℕ) {rs : List Entry} (some : 0 < left) (read : entriesFrom s h left at index commits ≡ taken rs) where
+  go-on : Entry → ℕ → ℕ → Result (List Entry)
+  go-on x next count = onTaken (entriesFrom s h (left - 1) next (suc index) count) (λ others. taken (x ∷ others))
+
+  first-taken : onRecord (recordAt s h at) index commits go-on ≡ taken rs
+  unfolding entriesFrom go-on
+  first-taken = let more : left ≡ suc (left - 1) = omega arith in ap (λ n. entriesFrom s h n at index commits) (sym more) ∙ read
 
   -- the first of the records is in form
   pub first-in-form : InFormAt s at (h .keys) (h .clients)
-  first-in-form = let (event, next, is, few, rest) = first-whole in record { records = h .records; event = event; next = next; read = is }
+  first-in-form =
+      let (entry, next, is) = onRecord-taken (recordAt s h at) index commits go-on first-taken in
+      record { records = h .records; entry = entry; next = next; read = is }
 
-module _ (s : List ℕ) (h : Format.Header) (at index commits left : ℕ) (r : Record) (means : meaning s (h .keys) r ≡ recordAt s h at) where
-  first-of : {es : List Event} (event : Event) (next : ℕ) (others : List Event) → recordAt s h at ≡ whole event next → commitsWith event commits ≤ maxCommits
-      → eventsFrom s h (left - 1) next (suc index) (commitsWith event commits) ≡ taken others → taken (event ∷ others) ≡ taken es
-      → First s h index commits left r es
-  first-of event next others is few others-read all = record {
-    event = event;
-    next = next;
-    others = others;
-    is-first = sym (taken-injective all);
-    read = means ∙ is;
-    few-commits = few;
-    others-read = rw (add-one index) others-read;
-  }
-
-  pub events-first : {es : List Event} → 0 < left → eventsFrom s h left at index commits ≡ taken es → First s h index commits left r es
-  events-first some read =
-      let (event, next, is, few, rest) = first-whole s h at index commits left some read in
-      let (others, others-read, all) = onTaken-taken (eventsFrom s h (left - 1) next (suc index) (commitsWith event commits)) _ rest in
-      first-of event next others is few others-read all
+  -- and where it was read again, the others follow it
+  pub entries-first : (x : Entry) (next : ℕ) → whole x next ≡ recordAt s h at → First s h index commits left x next rs
+  unfolding go-on
+  entries-first x next is =
+      let (few, rest) = onWhole-taken x next index commits go-on (ap (λ y. onRecord y index commits go-on) is ∙ first-taken) in
+      let (others, others-read, all) = onTaken-taken (entriesFrom s h (left - 1) next (suc index) (commitsWith x commits)) _ rest in
+      record { others = others; is-first = sym (taken-injective all); few-commits = few; others-read = rw (add-one index) others-read }
 
 -- ---- the file
 
@@ -128,7 +118,7 @@ pub record Taken (s : List ℕ) (h : Header) : Type 0 where
 
 -- then the file is what its records are
 decode-records : (s : List ℕ) (h : Header) → Taken s h
-    → decode s ≡ onTaken (eventsFrom s (headerOf h) (h .records) minBytes 1 0) (λ es. taken (record { keys = h .keys; clients = h .clients; events = es }))
+    → decode s ≡ onTaken (entriesFrom s (headerOf h) (h .records) minBytes 1 0) (λ rs. taken (traceOf (headerOf h) rs))
 unfolding decode
 decode-records s h t =
     sym
@@ -138,13 +128,13 @@ decode-records s h t =
     (need-met _ _ _ (t .size)
     (need-met _ _ _ (t .kind)
     (need-met _ _ _ (ap withinLimits (sym (t .is-header)) ∙ t .limits)
-    (ap (λ (g : Format.Header). onTaken (eventsFrom s g (g .records) minBytes 1 0) (λ es. taken (record { keys = g .keys; clients = g .clients; events = es }))) (t .is-header))))))))
+    (ap (λ (g : Format.Header). onTaken (entriesFrom s g (g .records) minBytes 1 0) (λ rs. taken (traceOf g rs))) (t .is-header))))))))
 
 -- and the answer about the records is one about the file
 pub form-says : {s : List ℕ} {h : Header} (r : Form) → AllRecordsSay s h r → Taken s h → FormSays s r
 unfolding AllRecordsSay FormSays onTaken
-form-says {s} {h} (Misshapen code n) e t = decode-records s h t ∙ rw e refl
-form-says {s} {h} (Whole g) said t =
+form-says {s} {h} (Forms.Misshapen code n) e t = decode-records s h t ∙ rw e refl
+form-says {s} {h} (Forms.Whole g) said t =
     let (some-key, few-keys, some-client, few-clients) = withinLimits-is (headerOf h) .0 (true-T _ (t .limits)) in
     rw (said .0) (record {
       some-key = some-key;
@@ -152,7 +142,7 @@ form-says {s} {h} (Whole g) said t =
       some-client = some-client;
       few-clients = few-clients;
       few-records = t .few-records;
-      events = said .1;
+      entries = said .1;
       read = said .2;
       decoded = decode-records s h t ∙ rw (said .2) refl;
     })

@@ -1,13 +1,14 @@
 // The form of a whole file: codes 1 to 8 in the order of "Bench codes" (01), "1 and 2; then form over all records in turn; 5".
 ghost use mathlib.Core.Path.{_≡_};
-ghost use Prim.Native.Nat.{_≤_, _<_};
+ghost use mathlib.Core.List.{List};
+ghost use Prim.Native.Nat.{ℕ, _≤_, _<_};
 ghost use lib.ListN.{length};
 ghost use Rattle.store.specs.Limits.{maxKeys, minBytes};
 ghost use Rattle.trace.specs.Format.{withinLimits};
-ghost use Rattle.trace.specs.Meaning.{goesOn, standsAt, passAfter, formAfter, headerOf, AllRecordsSay, FormSays};
+ghost use Rattle.trace.specs.Meaning.{goesOn, PassFits, passAfter, formAfter, headerOf, AllRecordsSay, FormSays};
 use crate::reader;
 use crate::records;
-use crate::records::Record;
+use crate::records::Reading;
 
 // "keys u8, clients u8, count u16 of records that follow"
 pub struct Header {
@@ -40,45 +41,29 @@ fn goes_on(p: Pass, count: usize) -> bool
 }
 
 // What a record leads to; code 8: "a 64th commit".
-fn after(p: Pass, r: Record) -> Pass
-    requires { ⌜ standsAt p < 65536 ⌝ }
-    ensures { λ q. ⌜ q ≡ passAfter p r ⌝ }
+fn after(p: Pass, x: Reading) -> Pass
+    requires { ⌜ PassFits p ⌝ }
+    ensures { λ q. ⌜ ((s : List ℕ) (keys : ℕ) → q ≡ passAfter s keys p x) ⌝ }
 {
     let Pass::Going { index, commits } = p else {
         return p;
     };
-    match r {
-        Record::Shift {
-            client: _,
-            masks: _,
-            next: _,
-        } => Pass::Going {
-            index: index + 1,
-            commits,
-        },
-        Record::Commit {
-            client: _,
-            count: _,
-            session: _,
-            operations: _,
-            masks: _,
-            next: _,
-        } => {
-            if store::Store::COMMITS <= commits {
-                return Pass::Stopped {
-                    code: 8,
-                    record: index,
-                };
-            }
-            Pass::Going {
-                index: index + 1,
-                commits: commits + 1,
-            }
-        }
-        Record::Refused(w) => Pass::Stopped {
-            code: records::number(w),
+    let Reading::Whole { record, next: _ } = x else {
+        return Pass::Stopped {
+            code: records::refusal(x),
             record: index,
-        },
+        };
+    };
+    let count = records::commits_with(record, commits);
+    if store::Store::COMMITS < count {
+        return Pass::Stopped {
+            code: 8,
+            record: index,
+        };
+    }
+    Pass::Going {
+        index: index + 1,
+        commits: count,
     }
 }
 

@@ -6,7 +6,7 @@ ghost use lib.ListN.{length};
 ghost use Rattle.store.specs.Limits.{maxKeys};
 ghost use Rattle.trace.specs.Meaning.{placeAfter, RecordSays};
 use crate::records;
-use crate::records::Record;
+use crate::records::Reading;
 
 pub struct Reader<'a> {
     pub src: &'a [u8],
@@ -21,7 +21,7 @@ pub fn new<'a>(src: &'a [u8], at: usize) -> Reader<'a>
 }
 
 // The record at the reader's place. Where it was read whole the reader stands at the next one, and where not it stays.
-pub fn next<'s, 'a>(r: &'s mut Reader<'a>, keys: usize, clients: usize) -> Record
+pub fn next<'s, 'a>(r: &'s mut Reader<'a>, keys: usize, clients: usize) -> Reading
     requires { ⌜ (now r .at ≤ length (now (now r .src))) × (keys ≤ maxKeys) ⌝ }
     ensures { λ x. ⌜ RecordSays (now (now (r .entry) .src)) (now (r .entry) .at) keys clients x × (now (r .exit) ≡ record { src = now (r .entry) .src; at = placeAfter x (now (r .entry) .at) }) ⌝ }
 {

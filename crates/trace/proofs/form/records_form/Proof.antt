@@ -5,7 +5,6 @@ use mathlib.Core.Path.{_≡_, refl, sym, ap, _∙_}
 use mathlib.Core.Bool.{Bool, true, false}
 use mathlib.Core.WellFounded.{WellFounded, InvImage·wf}
 use Prim.Native.Nat.{ℕ, _≤_, _<_, _^_}
-use native.Mathlib.Omega.{arith}
 use mathlib.Core.List.{List, [], _∷_}
 use lib.Dec.{T as Holds, lit<}
 use lib.ListN.{length}
@@ -49,7 +48,7 @@ use denote.Triple.Clauses.{ensured, lasts}
 use Rattle.store.specs.Limits.{minBytes, maxKeys}
 use Rattle.trace.specs.Meaning.{placeAfter, RecordSays, goesOn, passAfter, formAfter, AllRecordsSay}
 use Rattle.trace.specs.declared.reader.Reader.{Reader}
-use Rattle.trace.specs.declared.records.Record.{Record}
+use Rattle.trace.specs.declared.records.Reading.{Reading}
 use Rattle.trace.specs.declared.form.Header.{Header}
 use Rattle.trace.specs.declared.form.Form.{Form}
 use Rattle.trace.specs.declared.form.Pass.{Pass}
@@ -58,8 +57,8 @@ use Rattle.trace.proofs.Pass.{PassSays, toRead, pass-begins, pass-withi
 use Rattle.trace.proofs.Lent as L
 use Rattle.trace.proofs.reader.Reader as T
 use Rattle.trace.proofs.reader.Reader.Laws as T′
-use Rattle.trace.proofs.records.Record as S
-use Rattle.trace.proofs.records.Record.Laws as S′
+use Rattle.trace.proofs.records.Reading as S
+use Rattle.trace.proofs.records.Reading.Laws as S′
 use Rattle.trace.proofs.form.Header as N
 use Rattle.trace.proofs.form.Header.Laws as N′
 use Rattle.trace.proofs.form.Form as F
@@ -219,28 +218,28 @@ module _ {M : Type 1} (𝓤 : URA M) (H : Heap 𝓤) (A : Atoms 𝓤) (W : Given
 
     asks-next : (a l : ℕ) (δ : GName) → goesOn (x .pass) (h .records) ≡ true → ent 𝓤 (mean 𝓤 H A (L.Out κ s 𝓤 H A W q l (x .place) a δ)) (Next 𝓤 H A at-mem run .pre (to-next a l δ))
     asks-next a l δ more =
-        qed W (L.Out κ s 𝓤 H A W q l (x .place) a δ ∷ []) ∵ says ! (pass-within (now s) h (x .place) (x .pass) more (x .said) .0, within .1) $ split ! $ move ! (1 ∷ []) $ split ! $
+        qed W (L.Out κ s 𝓤 H A W q l (x .place) a δ ∷ []) ∵ says ! (pass-within (now s) h (x .place) (x .pass) (within .2) more (x .said) .0, within .1) $ split ! $ move ! (1 ∷ []) $ split ! $
         -- [κ's token; the reference; the meet's token]
         nothing ! $ owned ! usize (Is usize) (uint-makes 𝓤 H A W w64) (h .clients) _ (refl, fits-h .1) $ fjoin ! $ owned ! usize (Is usize) (uint-makes 𝓤 H A W w64) (h .keys) _ (refl, fits-h .0) $ fjoin ! $ move ! (2 ∷ 0 ∷ []) $ fjoin ! $
         nothing ! $ move ! (2 ∷ 0 ∷ []) $ join ! $ move ! (2 ∷ 0 ∷ []) $ join ! $ frame ! $ done !
 
     -- what is said of the record, and where the reader stands then
-    abbrev Read : Record → Reader → Type 0
+    abbrev Read : Reading → Reader → Type 0
     Read r d = RecordSays (now s) (x .place) (h .keys) (h .clients) r × (d ≡ L.standing κ s (placeAfter r (x .place)))
 
-    abbrev to-after : Record → Val → After 𝓤 H A at-mem run .Ghost
+    abbrev to-after : Reading → Val → After 𝓤 H A at-mem run .Ghost
     to-after r u = ((tt, tt, tt, (x .pass, (r, tt)), (x .val ∷ [], (u ∷ [], tt))), tt)
 
-    asks-after : (r : Record) (u : Val) → Is S.the-row r (u ∷ []) → goesOn (x .pass) (h .records) ≡ true → ent 𝓤 (emp 𝓤) (After 𝓤 H A at-mem run .pre (to-after r u))
+    asks-after : (r : Reading) (u : Val) → Is S.the-row r (u ∷ []) → goesOn (x .pass) (h .records) ≡ true → ent 𝓤 (emp 𝓤) (After 𝓤 H A at-mem run .pre (to-after r u))
     asks-after r u is-r more =
-        qed W [] ∵ says ! (let below = pass-within (now s) h (x .place) (x .pass) more (x .said) .1 in omega (arith, within .2)) $
+        qed W [] ∵ says ! (pass-within (now s) h (x .place) (x .pass) (within .2) more (x .said) .1) $
         nothing ! $ owned ! S.the-row (Is S.the-row) (EL.makes S.the-type S′.the-plain 𝓤 H A) r _ is-r $ fjoin ! $ owned ! P.the-row (Is P.the-row) (EL.makes P.the-type P′.the-plain 𝓤 H A) (x .pass) _ (x .is) $ fjoin ! $ nothing ! $ frame ! $ done !
 
-    after-said : (r : Record) (p : Pass) → ent 𝓤 (ensured 𝓤 H A after.ended (after.clauses 𝓤 H A at-mem run) tt (x .pass, (r, tt)) tt p) (fact 𝓤 (p ≡ passAfter (x .pass) r))
-    after-said r p = exE 𝓤 _ (λ ws. snd∗ 𝓤 (sem 𝓤 H A (lasts after.ended tt (x .pass, (r, tt)) ws)) (fact 𝓤 (p ≡ passAfter (x .pass) r)))
+    after-said : (r : Reading) (p : Pass) → ent 𝓤 (ensured 𝓤 H A after.ended (after.clauses 𝓤 H A at-mem run) tt (x .pass, (r, tt)) tt p) (fact 𝓤 ((file : List ℕ) (keys : ℕ) → p ≡ passAfter file keys (x .pass) r))
+    after-said r p = exE 𝓤 _ (λ ws. snd∗ 𝓤 (sem 𝓤 H A (lasts after.ended tt (x .pass, (r, tt)) ws)) (fact 𝓤 ((file : List ℕ) (keys : ℕ) → p ≡ passAfter file keys (x .pass) r)))
 
     -- where the turn after this one begins
-    abbrev turned : (r : Record) (p : Pass) (w : Val) → goesOn (x .pass) (h .records) ≡ true → RecordSays (now s) (x .place) (h .keys) (h .clients) r → placeAfter r (x .place) < 2 ^ 64 → p ≡ passAfter (x .pass) r → Is P.the-row p (w ∷ []) → Turn (now s) h
+    abbrev turned : (r : Reading) (p : Pass) (w : Val) → goesOn (x .pass) (h .records) ≡ true → RecordSays (now s) (x .place) (h .keys) (h .clients) r → placeAfter r (x .place) < 2 ^ 64 → p ≡ passAfter (now s) (h .keys) (x .pass) r → Is P.the-row p (w ∷ []) → Turn (now s) h
     turned r p w more read fits e is-p = record {
       place = placeAfter r (x .place);
       place-fits = fits;
@@ -250,7 +249,7 @@ module _ {M : Type 1} (𝓤 : URA M) (H : Heap 𝓤) (A : Atoms 𝓤) (W : Given
       said = rw e (pass-after (now s) h (x .place) r read (x .pass) more (x .said) .0);
     }
 
-    turned-nearer : (r : Record) (p : Pass) → goesOn (x .pass) (h .records) ≡ true → RecordSays (now s) (x .place) (h .keys) (h .clients) r → p ≡ passAfter (x .pass) r → toRead (h .records) p < toRead (h .records) (x .pass)
+    turned-nearer : (r : Reading) (p : Pass) → goesOn (x .pass) (h .records) ≡ true → RecordSays (now s) (x .place) (h .keys) (h .clients) r → p ≡ passAfter (now s) (h .keys) (x .pass) r → toRead (h .records) p < toRead (h .records) (x .pass)
     turned-nearer r p more read e = rw e (pass-after (now s) h (x .place) r read (x .pass) more (x .said) .1)
 
     abbrev to-form : FormAfter 𝓤 H A at-mem run .Ghost
@@ -317,7 +316,7 @@ module _ {M : Type 1} (𝓤 : URA M) (H : Heap 𝓤) (A : Atoms 𝓤) (W : Given
           use1 W (raw (Next 𝓤 H A at-mem run .pre (to-next x a l₃ δ))) (asks-next x a l₃ δ more) $
           -- [what `next` asks; what is kept, and what s owns; _10; …; _9; …; _8; …; _7; …; _6; …; _5; …; _4; …; that _3 dies; _2; …; _1; …; room for _0; …]
           calls-at ! (fmOf 𝓤 H (W .laws) 𝓣) (Next 𝓤 H A at-mem run) known-next (to-next x a l₃ δ) (and-then ! (load ! (from ! (stop !)) (look ! 6 refl)) (and-then ! (load ! (from ! (fld ! refl (stop !))) (look-in ! 17 (sub ! 0 refl (whole !)))) (and-then ! (load ! (from ! (fld ! refl (stop !))) (look-in ! 17 (sub ! 1 refl (whole !)))) (no-more !)))) (λ u.
-          use1 W (later (some (λ (r : Record). (L.Tokens κ s 𝓤 H A W q a ⊛ ‵ (S.the-row .own r (u ∷ []))) ⊛ raw (ensured 𝓤 H A next.ended (next.clauses 𝓤 H A at-mem run) (a ∷ κ, (κ, tt)) (lent x l₃ δ, (h .keys, (h .clients, tt))) tt r)))) (id⊢ 𝓤 _) $ await ! tt $ pick ! (λ r.
+          use1 W (later (some (λ (r : Reading). (L.Tokens κ s 𝓤 H A W q a ⊛ ‵ (S.the-row .own r (u ∷ []))) ⊛ raw (ensured 𝓤 H A next.ended (next.clauses 𝓤 H A at-mem run) (a ∷ κ, (κ, tt)) (lent x l₃ δ, (h .keys, (h .clients, tt))) tt r)))) (id⊢ 𝓤 _) $ await ! tt $ pick ! (λ r.
           split ! $ move ! (1 ∷ []) $ use1 W (some (λ (ws : Reader × (Unit {0} × (Unit {0} × Unit {0}))). ‵ (lasts next.ended (a ∷ κ, (κ, tt)) (lent x l₃ δ, (h .keys, (h .clients, tt))) ws) ⊛ raw (fact 𝓤 (Read x r (ws .0))))) (id⊢ 𝓤 _) $ pick ! (λ ws.
           split ! $ move ! (1 ∷ []) $ heard ! (Read x r (ws .0)) (λ e. fsplit ! $ move ! (1 ∷ []) $ drop ! $ rewrite ! 0 (λ (d : Reader). ‵ (fres δ (L.R κ s .coded .code d))) (e .1) refl $
           move ! (1 ∷ []) $ split ! $ move ! (1 ∷ []) $ peeks ! S.the-row (Is S.the-row) (shows 𝓤 H A S.the-row) r (u ∷ []) (λ is-r.
@@ -329,12 +328,12 @@ module _ {M : Type 1} (𝓤 : URA M) (H : Heap 𝓤) (A : Atoms 𝓤) (W : Given
           use0 W (raw (After 𝓤 H A at-mem run .pre (to-after x r u))) (asks-after x r u is-r more) $
           calls-at-last ! (fmOf 𝓤 H (W .laws) 𝓣) (After 𝓤 H A at-mem run) known-after (to-after x r u) (and-then ! (load ! (from ! (stop !)) (look ! 16 refl)) (and-then ! (load ! (from ! (stop !)) (look ! 10 refl)) (no-more !))) (λ w.
           use1 W (later (some (λ (p : Pass). (‵ ftrue ⊛ ‵ (P.the-row .own p (w ∷ []))) ⊛ raw (ensured 𝓤 H A after.ended (after.clauses 𝓤 H A at-mem run) tt (x .pass, (r, tt)) tt p)))) (id⊢ 𝓤 _) $ await ! tt $ pick ! (λ p.
-          split ! $ move ! (1 ∷ []) $ use1 W (raw (fact 𝓤 (p ≡ passAfter (x .pass) r))) (after-said x r p) $ heard ! (p ≡ passAfter (x .pass) r) (λ e′. split ! $ drop ! $
+          split ! $ move ! (1 ∷ []) $ use1 W (raw (fact 𝓤 ((file : List ℕ) (keys : ℕ) → p ≡ passAfter file keys (x .pass) r))) (after-said x r p) $ heard ! ((file : List ℕ) (keys : ℕ) → p ≡ passAfter file keys (x .pass) r) (λ e′. split ! $ drop ! $
           peeks ! P.the-row (Is P.the-row) (shows 𝓤 H A P.the-row) p (w ∷ []) (λ is-p.
           land-last ! (from ! (stop !)) (store ! 16 refl (EL.lawful P.the-type P′.the-laws 𝓤 H A W tt .typed p _ is-p .0)) $ drop ! $
           forget ! 7 refl $ forget ! 9 refl $ forget ! 11 refl $
           keep ! (3 ∷ 4 ∷ 5 ∷ 6 ∷ 7 ∷ 8 ∷ 9 ∷ 10 ∷ 11 ∷ 12 ∷ 13 ∷ 14 ∷ 15 ∷ 16 ∷ 0 ∷ 17 ∷ 18 ∷ 19 ∷ 20 ∷ 21 ∷ 22 ∷ 23 ∷ 2 ∷ 1 ∷ []) $
-          again ! (Nearer (now s) h) At x (turned x r p w more (e .0) fits e′ is-p) (turned-nearer x r p more (e .0) e′)))))))))))))
+          again ! (Nearer (now s) h) At x (turned x r p w more (e .0) fits (e′ (now s) (h .keys)) is-p) (turned-nearer x r p more (e .0) (e′ (now s) (h .keys)))))))))))))))
 
       -- no record is left: the loop is left, and the form is what the pass came to
       leaves : (x : Turn (now s) h) → goesOn (x .pass) (h .records) ≡ false → Sq W (Tested x (fat fullShare tyBool l₆ 0 (vbool false))) (runs C Λ En (rest pieces.turn-1) (anyQ (Turned x)))

@@ -49,11 +49,11 @@ use denote.Triple.Clauses.{ensured, lasts}
 use Rattle.store.specs.Limits.{maxKeys}
 use Rattle.trace.specs.Meaning.{placeAfter, RecordSays}
 use Rattle.trace.specs.declared.reader.Reader.{Reader}
-use Rattle.trace.specs.declared.records.Record.{Record}
+use Rattle.trace.specs.declared.records.Reading.{Reading}
 use Rattle.trace.proofs.reader.Reader as T
 use Rattle.trace.proofs.reader.Reader.Laws as T′
-use Rattle.trace.proofs.records.Record as S
-use Rattle.trace.proofs.records.Record.Laws as S′
+use Rattle.trace.proofs.records.Reading as S
+use Rattle.trace.proofs.records.Reading.Laws as S′
 use Rattle.trace.proofs.records.record_at as record-at
 use Rattle.trace.proofs.records.record_at.Symbol as record-at-def
 use Rattle.trace.proofs.records.record_at.Symbol.{name as #record-at}
@@ -117,7 +117,7 @@ module _ {M : Type 1} (𝓤 : URA M) (H : Heap 𝓤) (A : Atoms 𝓤) (W : Given
   v = sliceVal (d .src .ptr) (length (d .src .now))
 
   -- what is said of the record that is found
-  abbrev Found : Record → Type 0
+  abbrev Found : Reading → Type 0
   Found r = RecordSays (now (d .src)) (d .at) k c r
 
   abbrev Post : Val → SProp 𝓤
@@ -148,26 +148,26 @@ module _ {M : Type 1} (𝓤 : URA M) (H : Heap 𝓤) (A : Atoms 𝓤) (W : Given
       move ! (1 ∷ []) $ drop ! $ nothing ! $ owned ! usize (Is usize) (uint-makes 𝓤 H A W w64) c _ (refl, okc) $ fjoin ! $ owned ! usize (Is usize) (uint-makes 𝓤 H A W w64) k _ (refl, okk) $ fjoin ! $ owned ! usize (Is usize) (uint-makes 𝓤 H A W w64) (d .at) _ (refl, fits) $ fjoin ! $ move ! (1 ∷ 0 ∷ []) $ fjoin ! $
       move ! (2 ∷ 0 ∷ []) $ use2 W (raw (RecordAt 𝓤 H A at-mem run .pre to-record)) asked $ frame ! $ done !)
 
-  found : (r : Record) → ent 𝓤 (ensured 𝓤 H A record-at.ended (record-at.clauses 𝓤 H A at-mem run) (κ′, tt) (d .src, (d .at, (k, (c, tt)))) tt r) (fact 𝓤 (Found r))
+  found : (r : Reading) → ent 𝓤 (ensured 𝓤 H A record-at.ended (record-at.clauses 𝓤 H A at-mem run) (κ′, tt) (d .src, (d .at, (k, (c, tt)))) tt r) (fact 𝓤 (Found r))
   found r = exE 𝓤 _ (λ ws. snd∗ 𝓤 (sem 𝓤 H A (lasts record-at.ended (κ′, tt) (d .src, (d .at, (k, (c, tt)))) ws)) (fact 𝓤 (Found r)))
 
   -- the call of `place_after`, at the record r with the machine value u
-  abbrev to-place : Record → Val → PlaceAfter 𝓤 H A at-mem run .Ghost
+  abbrev to-place : Reading → Val → PlaceAfter 𝓤 H A at-mem run .Ghost
   to-place r u = ((tt, tt, tt, (r, (d .at, tt)), (u ∷ [], (vint w64 (d .at) ∷ [], tt))), tt)
 
-  asks-place : (r : Record) (u : Val) → Is S.the-row r (u ∷ []) → d .at < 2 ^ 64 → ent 𝓤 (emp 𝓤) (PlaceAfter 𝓤 H A at-mem run .pre (to-place r u))
+  asks-place : (r : Reading) (u : Val) → Is S.the-row r (u ∷ []) → d .at < 2 ^ 64 → ent 𝓤 (emp 𝓤) (PlaceAfter 𝓤 H A at-mem run .pre (to-place r u))
   asks-place r u is fits =
       qed W [] ∵ nothing ! $ owned ! usize (Is usize) (uint-makes 𝓤 H A W w64) (d .at) _ (refl, fits) $ fjoin ! $ owned ! S.the-row (Is S.the-row) (EL.makes S.the-type S′.the-plain 𝓤 H A) r _ is $ fjoin ! $ nothing ! $
       join ! $ frame ! $ done !
 
-  placed : (r : Record) (n : ℕ) → ent 𝓤 (ensured 𝓤 H A place-after.ended (place-after.clauses 𝓤 H A at-mem run) tt (r, (d .at, tt)) tt n) (fact 𝓤 (n ≡ placeAfter r (d .at)))
+  placed : (r : Reading) (n : ℕ) → ent 𝓤 (ensured 𝓤 H A place-after.ended (place-after.clauses 𝓤 H A at-mem run) tt (r, (d .at, tt)) tt n) (fact 𝓤 (n ≡ placeAfter r (d .at)))
   placed r n = exE 𝓤 _ (λ ws. snd∗ 𝓤 (sem 𝓤 H A (lasts place-after.ended tt (r, (d .at, tt)) ws)) (fact 𝓤 (n ≡ placeAfter r (d .at))))
 
   -- what src owns is kept, and at's facts are made anew
   again : (n : ℕ) → n < 2 ^ 64 → ent 𝓤 (sem 𝓤 H A Own) (sem 𝓤 H A (R .own (stands n) (T′.lowered (stands n) ∷ [])))
   again n ok = qed W (‵ Own ∷ []) ∵ owned ! usize (Is usize) (uint-makes 𝓤 H A W w64) n _ (refl, ok) $ move ! (1 ∷ 0 ∷ []) $ by ! (own-put 𝓤 H A W D L 1 vd n mach)
 
-  exits : (r : Record) (u : Val) (n : ℕ) → Is S.the-row r (u ∷ []) → Found r → n ≡ placeAfter r (d .at)
+  exits : (r : Reading) (u : Val) (n : ℕ) → Is S.the-row r (u ∷ []) → Found r → n ≡ placeAfter r (d .at)
       → ent 𝓤 (⋆ 𝓤 H A (‵ (fobs γ (R .coded .code (stands n))) ∷ ‵ (fbor κ (Body (mem R) b o γ)) ∷ ‵ (flft κ q) ∷ (‵ (flft κ′ q′) ⊛ ‵ ftrue) ∷ [])) (Post u)
   exits r u n is e p =
       qed W (‵ (fobs γ (R .coded .code (stands n))) ∷ ‵ (fbor κ (Body (mem R) b o γ)) ∷ ‵ (flft κ q) ∷ (‵ (flft κ′ q′) ⊛ ‵ ftrue) ∷ []) ∵
@@ -191,7 +191,7 @@ module _ {M : Type 1} (𝓤 : URA M) (H : Heap 𝓤) (A : Atoms 𝓤) (W : Given
         assigns ! (of-opd ! (load ! (from ! (hop ! (look ! 19 refl) (fld ! refl (stop !)))) (look-in ! 0 (sub ! 1 refl (whole !))))) (from ! (stop !)) (init ! 9 refl (tt, record { fits = was .1 .1 .1 .0 .1 })) $
         move ! (1 ∷ 5 ∷ []) $ use2 W (raw (RecordAt 𝓤 H A at-mem run .pre to-record) ⊛ ‵ Own) (apart (was .1 .1 .1 .0 .1)) $ split ! $
         calls-at ! fm (RecordAt 𝓤 H A at-mem run) known-record to-record (and-then ! (load ! (from ! (stop !)) (look ! 11 refl)) (and-then ! (load ! (from ! (stop !)) (look ! 9 refl)) (and-then ! (load ! (from ! (stop !)) (look ! 17 refl)) (and-then ! (load ! (from ! (stop !)) (look ! 15 refl)) (no-more !))))) (λ u.
-        use1 W (later (some (λ (r : Record). ((‵ (flft κ′ q′) ⊛ ‵ ftrue) ⊛ ‵ (S.the-row .own r (u ∷ []))) ⊛ raw (ensured 𝓤 H A record-at.ended (record-at.clauses 𝓤 H A at-mem run) (κ′, tt) (d .src, (d .at, (k, (c, tt)))) tt r)))) (id⊢ 𝓤 _) $ await ! tt $ pick ! (λ r.
+        use1 W (later (some (λ (r : Reading). ((‵ (flft κ′ q′) ⊛ ‵ ftrue) ⊛ ‵ (S.the-row .own r (u ∷ []))) ⊛ raw (ensured 𝓤 H A record-at.ended (record-at.clauses 𝓤 H A at-mem run) (κ′, tt) (d .src, (d .at, (k, (c, tt)))) tt r)))) (id⊢ 𝓤 _) $ await ! tt $ pick ! (λ r.
         split ! $ move ! (1 ∷ []) $ use1 W (raw (fact 𝓤 (Found r))) (found r) $ heard ! (Found r) (λ e. split ! $ move ! (1 ∷ []) $
         peeks ! S.the-row (Is S.the-row) (shows 𝓤 H A S.the-row) r (u ∷ []) (λ is.
         land ! (from ! (stop !)) (init ! 14 refl (EL.lawful S.the-type S′.the-laws 𝓤 H A W tt .typed r _ is .0)) $ drop ! $
