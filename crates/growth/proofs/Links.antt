@@ -8,9 +8,10 @@ use lib.Dec.{T}
 use Rattle.dependencies.specs.History.{Stored, as-writer, as-reader, SO, session-order, WR, write-read, WW, write-write, RW, read-write}
 use Rattle.store.specs.Store.{Key, VersionNumber, CommitNumber, View, Store, count, version, nextNumber, Commit}
 use Rattle.store.specs.Update.{reads, writes, newest, update}
-use Rattle.store.proofs.Updated.{Wrote, Read}
-use Rattle.store.proofs.Links.{history, appears-stored}
-use Rattle.growth.proofs.Made.{Made, WriterOf, ReaderOf, CommitBy, Operates, read-exists, wrote-after, read-after, stored-after, stored-not-new, client-kept, client-new, session-kept, session-new, after}
+use Rattle.store.specs.History.{Wrote, Read, history}
+use Rattle.store.proofs.Links.{appears-stored}
+use Rattle.growth.specs.Made.{Made, WriterOf, ReaderOf, CommitBy, Operates}
+use Rattle.growth.proofs.Made.{read-exists, wrote-after, read-after, stored-after, stored-not-new, client-kept, client-new, session-kept, session-new, after}
 
 -- ---- what leads into the new commit, and out of it
 

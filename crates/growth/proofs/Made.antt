@@ -11,20 +11,24 @@ use Rattle.sets.proofs.Laws.{has-large, has-highest}
 use Rattle.dependencies.specs.History.{History, Stored, as-writer, as-reader}
 use Rattle.store.specs.Store.{Key, VersionNumber, CommitNumber, Client, View, Store, Configuration, count, nextNumber, Commit}
 use Rattle.store.specs.Update.{reads, writes, newest, update, viewBefore}
-use Rattle.store.proofs.Updated.{Wrote, Read, at-same, at-other, wrote-update-is, read-update-is}
-use Rattle.store.proofs.Sound.{IsView, SoundStore, Sound, Appears, FitsCommit, LegalCommit, sound-update}
-use Rattle.store.proofs.Links.{history, appears-stored, stored-below}
+use Rattle.store.specs.History.{Wrote, Read, Appears, history}
+use Rattle.store.proofs.Updated.{at-same, at-other, wrote-update-is, read-update-is}
+use Rattle.store.specs.View.{IsView}
+use Rattle.store.specs.Sound.{SoundStore, Sound, WithinKeys}
+use Rattle.store.specs.Legal.{LegalCommit}
+use Rattle.store.proofs.Sound.{sound-update}
+use Rattle.store.proofs.Links.{appears-stored, stored-below}
 
 -- commit c can be made on view u of store s
 pub record Made (s : Store) (u : View) (c : Commit) : Type 0 where
   pub sound : SoundStore s
   pub view : IsView s u
-  pub fits : FitsCommit (s .keys) c
+  pub fits : WithinKeys (s .keys) c
   -- "Its session number is above every number of that client that appears in the store as writer or reader."
   pub newer : (t : CommitNumber) → Appears s t → 0 < t → s .clientOf t ≡ c .client → s .sessionOf t < c .session
 
 -- as a legal commit is on the view of its client
-pub legal-made : {g : Configuration} {c : Commit} → Sound g → FitsCommit (g .store .keys) c → LegalCommit g c → Made (g .store) (viewBefore g c) c
+pub legal-made : {g : Configuration} {c : Commit} → Sound g → WithinKeys (g .store .keys) c → LegalCommit g c → Made (g .store) (viewBefore g c) c
 legal-made {g} {c} h f l = record { sound = h .store; view = h .views (c .client); fits = f; newer = l .newer }
 
 -- ---- sets of commits

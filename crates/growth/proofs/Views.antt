@@ -13,11 +13,14 @@ use Rattle.sets.proofs.Algebra.{full-is}
 use Rattle.dependencies.specs.History.{Holds}
 use Rattle.store.specs.Store.{Key, VersionNumber, CommitNumber, View, Store, count, version, nextNumber, Commit}
 use Rattle.store.specs.Update.{writes, update}
-use Rattle.store.proofs.Updated.{Wrote, count-update, count-written}
-use Rattle.store.proofs.Sound.{IsView, SoundStore, FitsView}
-use Rattle.store.proofs.Links.{history, held}
-use Rattle.growth.proofs.Made.{Made, WriterOf, Writer, Writes, wrote-after, writer-after, after}
-use Rattle.growth.proofs.Ordered.{Ordered, writes-once}
+use Rattle.store.specs.History.{Wrote, history, held}
+use Rattle.store.proofs.Updated.{count-update, count-written}
+use Rattle.store.specs.View.{IsView, FitsView}
+use Rattle.store.specs.Sound.{SoundStore}
+use Rattle.growth.specs.Made.{Made, WriterOf, Writer, Writes}
+use Rattle.growth.proofs.Made.{wrote-after, writer-after, after}
+use Rattle.growth.specs.Ordered.{Ordered}
+use Rattle.growth.proofs.Ordered.{writes-once}
 
 -- t wrote something, and the view holds none of it
 abbrev pub Lacking : Store → View → CommitNumber → Type 0

@@ -11,7 +11,8 @@ use Rattle.store.specs.Limits.{maxClients, maxCommits, minBytes}
 use Rattle.store.specs.Store.{Configuration, openingStore, opening}
 use Rattle.store.specs.Update.{step, firstAlong}
 use Rattle.store.specs.Refusal.{refusesEvent}
-use Rattle.store.proofs.Sound.{Sound, FitsView, FitsCommit}
+use Rattle.store.specs.Sound.{Sound, WithinKeys}
+use Rattle.store.specs.View.{FitsView}
 use Rattle.trace.specs.Result.{taken}
 use Rattle.trace.specs.Entry.{Entry, shifting, committing, over, commitMeant, event, eventsOf}
 use Rattle.trace.specs.Format.{Header, commitsWith, entriesFrom}
@@ -137,7 +138,7 @@ module _ {file : List ℕ} {n clients records : ℕ} {rs : List Entry} where
           let c = commitMeant (s .g) d v os m in
           let fits = f (s .g) views-fit in
           along-commit file (header n clients records) (eventsOf (opening n) rs) left at number (s .g) (s .rest) (s .fs) (s .along) d v os m (left - 1) next
-          (subst (λ (k : ℕ). FitsCommit k c) (sym (s .along .keys-are)) (commit-fits n clients c fits)) (omega (arith, fits .client-below)) a q
+          (subst (λ (k : ℕ). WithinKeys k c) (sym (s .along .keys-are)) (commit-fits n clients c fits)) (omega (arith, fits .client-below)) a q
 
       moved : {g : Configuration} {rest : List Entry} {fs : Level → Option Failure} {next place : ℕ} → Along file (header n clients records) (eventsOf (opening n) rs) (left - 1) next (suc number) g rest fs → place ≡ next
           → Along file (header n clients records) (eventsOf (opening n) rs) (left - 1) place (number + 1) g rest fs

@@ -15,7 +15,8 @@ use Rattle.sets.specs.Set.{has}
 use Rattle.sets.proofs.Laws.{has-none, has-lt}
 use Rattle.store.specs.Store.{Key, VersionNumber, CommitNumber, Client, Version, openingVersion, View, Store, Configuration, openingStore, opening, count, version, nextNumber, read, write, Commit, Event, shift, commit}
 use Rattle.store.specs.Update.{valueOf, reads, writes, newest, atNumber, update, viewBefore, storeAfter, step}
-use Rattle.store.proofs.Updated.{at-same, at-other, Wrote, Read, count-update, wrote-update, read-update, untouched}
+use Rattle.store.specs.History.{Wrote, Read}
+use Rattle.store.proofs.Updated.{at-same, at-other, count-update, wrote-update, read-update, untouched}
 
 -- "A view holds version 0 of each key, only versions that exist, and all versions of a writer if it holds one"; a mask is a word,
 -- and there is none beyond the keys
@@ -47,7 +48,7 @@ pub record FitsView (keys : ℕ) (u : View) : Type 0 where
   pub word : (k : Key) → u k < 2 ^ 64
   pub beyond : (k : Key) → keys ≤ k → u k ≡ 0
 
-pub record FitsCommit (keys : ℕ) (c : Commit) : Type 0 where
+pub record WithinKeys (keys : ℕ) (c : Commit) : Type 0 where
   pub read-keys : (k : Key) → T (reads c k) → k < keys
   pub write-keys : (k : Key) → T (writes c k) → k < keys
   pub after : FitsView keys (c .viewAfter)
@@ -206,7 +207,7 @@ module _ (s : Store) (u : View) (c : Commit) (h : SoundStore s) where
       key k i l (no n) (yes w) = wk k w
       key k i l (no n) (no m) = h .only-keys k i (subst (λ (vs : List Version). i < length vs) (untouched s u c k n m) l)
 
-pub sound-commit : (g : Configuration) (c : Commit) → Sound g → FitsCommit (g .store .keys) c → IsView (storeAfter g c) (c .viewAfter) → Sound (step g (commit c))
+pub sound-commit : (g : Configuration) (c : Commit) → Sound g → WithinKeys (g .store .keys) c → IsView (storeAfter g c) (c .viewAfter) → Sound (step g (commit c))
 unfolding step
 sound-commit g c h f v = record {
   store = sound-update (g .store) (viewBefore g c) c (h .store) (f .read-keys) (f .write-keys);

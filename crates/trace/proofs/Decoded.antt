@@ -13,7 +13,7 @@ use Rattle.endian.proofs.Laws.{leAt-lt}
 use Rattle.store.specs.Limits.{maxCommits, minBytes, maxBytes}
 use Rattle.store.specs.Store.{Configuration, opening}
 use Rattle.store.specs.Update.{step}
-use Rattle.store.proofs.Sound.{FitsView}
+use Rattle.store.specs.View.{FitsView}
 use Rattle.store.proofs.Run.{commitsIn}
 use Rattle.trace.specs.Result.{Result, refused, taken, onTaken}
 use Rattle.trace.specs.Entry.{Entry, listedOr, over, event, eventsOf}

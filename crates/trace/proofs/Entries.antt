@@ -9,7 +9,9 @@ use lib.ListN.{length}
 use Rattle.search.proofs.Choose.{choose-ind}
 use Rattle.store.specs.Store.{Client, Configuration, opening, openingStore, Event, shift, commit}
 use Rattle.store.specs.Update.{step}
-use Rattle.store.proofs.Sound.{FitsView, Sound, sound-opening}
+use Rattle.store.specs.View.{FitsView}
+use Rattle.store.specs.Sound.{Sound}
+use Rattle.store.proofs.Sound.{sound-opening}
 use Rattle.store.proofs.Run.{commitsIn}
 use Rattle.trace.specs.Entry.{Entry, shifting, committing, every, listedOr, over, event, eventsOf}
 use Rattle.trace.specs.Format.{commitsWith}
