@@ -9,7 +9,7 @@ ghost use Rattle.endian.specs.Endian.{putAt, pieces};
 ghost use Rattle.store.specs.Limits.{maxKeys, maxCommits};
 ghost use Rattle.store.specs.Store.{Store, count};
 ghost use Rattle.store.specs.Image.{commitBytes, keyBytes, image};
-ghost use Rattle.store.proofs.Sound.{SoundStore};
+ghost use Rattle.store.specs.Sound.{SoundStore};
 ghost use Rattle.state.specs.Places.{perKey, numbers};
 ghost use Rattle.state.specs.Keeps.{KeepsVersions, KeepsKeys, KeepsCommits};
 ghost use Rattle.image.specs.Parts.{mostBytes, headBytes, keysSize, wholeSize, ClientsFit};

@@ -15,7 +15,7 @@ use Rattle.sets.specs.Set.{Set, has, lowest}
 use Rattle.sets.proofs.Laws.{has-none, has-lowest}
 use Rattle.store.specs.Store.{Commit, Value, read, write}
 use Rattle.store.specs.Update.{valueOf, reads, writes}
-use Rattle.growth.proofs.Made.{Operates}
+use Rattle.growth.specs.Made.{Operates}
 use Rattle.state.specs.Keeps.{KeepsOperations}
 
 some-when : (b : Bool) (x : Value) → T (isSome (when b x)) ↔ T b

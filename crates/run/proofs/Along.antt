@@ -17,13 +17,18 @@ use Rattle.store.specs.Store.{Store, Configuration, openingStore, opening, next
 use Rattle.store.specs.Update.{update, step, viewBefore, storeAfter, final, firstAlong}
 use Rattle.store.specs.Refusal.{Refusal, refuse, refusesEvent}
 use Rattle.store.proofs.Updated.{at-same, at-other}
-use Rattle.store.proofs.Sound.{Sound, FitsView, FitsCommit, LegalShift, LegalCommit, sound-opening, sound-shift, sound-commit}
+use Rattle.store.specs.Sound.{Sound, WithinKeys}
+use Rattle.store.specs.View.{FitsView}
+use Rattle.store.specs.Legal.{LegalShift, LegalCommit}
+use Rattle.store.proofs.Sound.{sound-opening, sound-shift, sound-commit}
 use Rattle.store.proofs.Legal.{legal-shift, legal-commit}
 use Rattle.trace.specs.Result.{Result, refused, taken, onTaken}
 use Rattle.trace.specs.Format.{Header, Record, misshapen, whole, recordAt, commitsWith, onRecord, eventsFrom}
 use Rattle.levels.specs.Level.{Level, Failure, failsEvent}
-use Rattle.growth.proofs.Made.{Made, legal-made}
-use Rattle.growth.proofs.Ordered.{Ordered, ordered-opening, ordered-commit}
+use Rattle.growth.specs.Made.{Made}
+use Rattle.growth.proofs.Made.{legal-made}
+use Rattle.growth.specs.Ordered.{Ordered}
+use Rattle.growth.proofs.Ordered.{ordered-opening, ordered-commit}
 use Rattle.run.specs.Along.{ClientsBelow, Along}
 
 -- a refusal is not a value
@@ -140,7 +145,7 @@ module _ (bytes : List ℕ) (h : Header) (es : List Event) (left at n : ℕ) (g 
       (x .after, along-next (shift d u) (x .after) (x .first) q left′ next (x .read) (sound-shift g d u (a .sound) (l .view)) (a .ordered) (a .keys-are) (a .few) (a .clients-fit))
 
   -- after a commit
-  pub along-commit : (c : Commit) (left′ next : ℕ) → FitsCommit (g .store .keys) c → c .client < 256 → Ahead bytes h left′ n next (g .store .commits) (commit c) rest
+  pub along-commit : (c : Commit) (left′ next : ℕ) → WithinKeys (g .store .keys) c → c .client < 256 → Ahead bytes h left′ n next (g .store .commits) (commit c) rest
       → refusesEvent n g (commit c) ≡ none → (after : List Event) × Next (commit c) after left′ next
   unfolding step update
   along-commit c left′ next f b x q =

@@ -11,7 +11,8 @@ use Rattle.store.specs.Limits.{maxClients, maxCommits, minBytes}
 use Rattle.store.specs.Store.{Configuration, openingStore, opening, Event, shift, commit}
 use Rattle.store.specs.Update.{step, firstAlong}
 use Rattle.store.specs.Refusal.{refusesEvent}
-use Rattle.store.proofs.Sound.{Sound, FitsView, FitsCommit}
+use Rattle.store.specs.Sound.{Sound, WithinKeys}
+use Rattle.store.specs.View.{FitsView}
 use Rattle.trace.specs.Result.{taken}
 use Rattle.trace.specs.Format.{Header, commitsWith, eventsFrom}
 use Rattle.trace.specs.Meaning.{RecordSays, InFormAt}
@@ -130,7 +131,7 @@ module _ {file : List ℕ} {n clients records : ℕ} {es : List Event} where
           (subst (λ (m : ℕ). FitsView m u) (sym (s .along .keys-are)) (f .view-fits)) a q
       along-on (commit c) f next a q =
           along-commit file (header n clients records) es left at number (s .g) (s .rest) (s .fs) (s .along) c (left - 1) next
-          (subst (λ (m : ℕ). FitsCommit m c) (sym (s .along .keys-are)) (commit-fits n clients c f)) (omega (arith, f .client-below)) a q
+          (subst (λ (m : ℕ). WithinKeys m c) (sym (s .along .keys-are)) (commit-fits n clients c f)) (omega (arith, f .client-below)) a q
 
       moved : {g : Configuration} {rest : List Event} {fs : Level → Option Failure} {next place : ℕ} → Along file (header n clients records) es (left - 1) next (suc number) g rest fs → place ≡ next
           → Along file (header n clients records) es (left - 1) place (number + 1) g rest fs

@@ -7,8 +7,8 @@ ghost use Prim.Native.Nat.{_+_, _*_, _^_, _<_, _≤_};
 ghost use lib.ListN.{length};
 ghost use Rattle.store.specs.Store.{Store, View, Commit, nextNumber};
 ghost use Rattle.store.specs.Update.{update};
-ghost use Rattle.growth.proofs.Made.{Made, Operates};
-ghost use Rattle.growth.proofs.Links.{FromRead};
+ghost use Rattle.growth.specs.Made.{Made, Operates};
+ghost use Rattle.growth.specs.Links.{FromRead};
 ghost use Rattle.state.specs.Keeps.{IsSet, KeepsSessions, KeepsCommits};
 
 // The commit `me` of a client stands in the log; where it has operations, it stands in its client's session too. `sources` are the

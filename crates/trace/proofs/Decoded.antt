@@ -12,7 +12,7 @@ use Rattle.endian.specs.Endian.{Bytes, leAt}
 use Rattle.endian.proofs.Laws.{leAt-lt}
 use Rattle.store.specs.Limits.{maxCommits, minBytes, maxBytes}
 use Rattle.store.specs.Store.{Event}
-use Rattle.store.proofs.Sound.{FitsView}
+use Rattle.store.specs.View.{FitsView}
 use Rattle.store.proofs.Run.{commitsIn}
 use Rattle.trace.specs.Result.{Result, refused, taken, onTaken}
 use Rattle.trace.specs.Format.{Header, Trace, viewAt, accessOf, operationAt, operationsAt, rankAt, operationFits, operationsFit, Record, misshapen, whole, shiftAt, commitLength, commitOf, commitAt, recordAt, commitsWith, onRecord, eventsFrom, headerAt, withinLimits, decode}

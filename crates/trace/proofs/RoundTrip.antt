@@ -16,7 +16,7 @@ use Rattle.endian.proofs.Laws.{length-leBytes}
 use Rattle.endian.proofs.Stands.{Stands, stands-whole, stands-at, stands-within, stands-first, stands-second, stands-behind, stands-piece, read-fitting, read-first}
 use Rattle.store.specs.Limits.{maxKeys, maxClients, maxCommits, minBytes, maxBytes}
 use Rattle.store.specs.Store.{Client, View, Access, read, write, Operation, Commit, Event, shift, commit}
-use Rattle.store.proofs.Sound.{FitsView}
+use Rattle.store.specs.View.{FitsView}
 use Rattle.store.proofs.Run.{commitsIn}
 use Rattle.trace.specs.Result.{Result, taken, onTaken}
 use Rattle.trace.specs.Format.{Header, Trace, viewAt, accessOf, operationAt, operationsAt, rankAt, operationFits, operationsFit, whole, shiftLength, shiftAt, commitLength, commitOf, commitAt, recordAt, commitsWith, onRecord, eventsFrom, headerAt, withinLimits, decode}

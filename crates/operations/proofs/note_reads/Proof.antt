@@ -6,7 +6,7 @@ use mathlib.Core.List.{List}
 use native.Mathlib.Omega.{arith}
 use lib.ListN.{length}
 use Rattle.store.specs.Store.{View, Store, Commit}
-use Rattle.growth.proofs.Ordered.{Ordered}
+use Rattle.growth.specs.Ordered.{Ordered}
 use Rattle.state.specs.Keeps.{IsSet, KeepsKeys}
 use Rattle.state.specs.Accesses.{Left}
 use Rattle.state.proofs.Accesses.{next-key, left-rest, turn-below}
