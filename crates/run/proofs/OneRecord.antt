@@ -15,7 +15,7 @@ use Rattle.trace.specs.Format as Format
 use Rattle.trace.specs.Format.{viewAt, operationsAt, whole, commitsWith}
 use Rattle.trace.specs.Meaning.{meaning, PlacesFit, RecordSays}
 use Rattle.trace.proofs.Decoded.{ReadAt, record-read}
-use Rattle.trace.proofs.WellFormed.{FitsEvent}
+use Rattle.trace.specs.WellFormed.{FitsEvent}
 use Rattle.trace.proofs.Entries.{sound-fits, opening-fits}
 use Rattle.trace.proofs.Known.{not-whole}
 use Rattle.trace.specs.declared.records.Why.{Why}

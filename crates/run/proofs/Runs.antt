@@ -19,7 +19,8 @@ use Rattle.trace.specs.Format.{Header, commitsWith, entriesFrom}
 use Rattle.trace.specs.Meaning.{RecordSays, InFormAt}
 use Rattle.trace.specs.declared.records.Record.{Record}
 use Rattle.trace.proofs.Decoded.{ReadAt, record-read}
-use Rattle.trace.proofs.Entries.{ViewsFit, FitsEntry, sound-fits}
+use Rattle.trace.specs.WellFormed.{ViewsFit, FitsEntry}
+use Rattle.trace.proofs.Entries.{sound-fits}
 use Rattle.trace.proofs.Fits.{commit-fits}
 use Rattle.trace.proofs.InForm.{First, first-in-form, entries-first}
 use Rattle.levels.specs.Level.{Level, Failure, failsEvent}
