@@ -20,7 +20,7 @@ use Rattle.store.specs.Update.{sameAccess, valueOf, viewBefore}
 use Rattle.store.specs.Sound as Store
 use Rattle.trace.specs.Format.{viewAt}
 use Rattle.trace.specs.Encode.{accessNumber}
-use Rattle.trace.proofs.WellFormed.{rank, Rise, FitsCommit}
+use Rattle.trace.specs.WellFormed.{rank, Rise, FitsCommit}
 use Rattle.trace.proofs.Fits.{commit-fits}
 use Rattle.state.specs.Keeps.{KeepsMasks, KeepsOperations}
 use Rattle.commits.specs.Codes.{EarlyGiven}

@@ -26,16 +26,7 @@ use Rattle.growth.specs.Links.{FromWrite}
 use Rattle.growth.specs.Sessions.{ReadUpTo}
 use Rattle.growth.specs.Views.{Lacking, Full}
 use Rattle.growth.proofs.Views.{held-writer}
-
--- ---- the commits that a clause wants
-
--- clauses 3, 6 and 7: from a R leads to a commit of which the view holds a version
-abbrev pub LeadsToHeld : Store → View → (ℕ → ℕ → Type 0) → CommitNumber → Type 0
-LeadsToHeld s u R a = (t : CommitNumber) × Holds (history s) (held u) t × R a t
-
--- a commit of W is lacking
-abbrev pub LacksOneOf : Store → View → (CommitNumber → Type 0) → Type 0
-LacksOneOf s u W = (a : CommitNumber) × W a × Lacking s u a
+use Rattle.growth.specs.Clauses.{LeadsToHeld, LacksOneOf}
 
 module _ (s : Store) (u : View) (v : IsView s u) where
   -- a version is held where its writer is not lacking

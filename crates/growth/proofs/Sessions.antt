@@ -14,14 +14,7 @@ use Rattle.growth.specs.Ordered.{Ordered}
 use Rattle.growth.proofs.Ordered.{SO-rises, WR-rises}
 use Rattle.growth.specs.Links.{FromSession, FromRead}
 use Rattle.growth.proofs.Links.{SO-after, WR-after}
-
--- a wrote a version that a commit of client d read
-abbrev pub ReadByClient : History → Client → CommitNumber → Type 0
-ReadByClient H d a = (r : CommitNumber) × CommitBy H d r × WR H a r
-
--- a wrote a version that was "read by t or by a t' with t' SO t"
-abbrev pub ReadUpTo : History → CommitNumber → CommitNumber → Type 0
-ReadUpTo H a t = (r : CommitNumber) × ((r ≡ t) ⊎ SO H r t) × WR H a r
+use Rattle.growth.specs.Sessions.{ReadByClient, ReadUpTo}
 
 -- such an a has a smaller number than t
 pub read-up-to-rises : (s : Store) → SoundStore s → Ordered s → (a t : CommitNumber) → ReadUpTo (history s) a t → a < t

@@ -14,7 +14,7 @@ use Rattle.trace.specs.Entry.{listedOr, over, event}
 use Rattle.trace.specs.Format.{Header, viewAt, commitsWith}
 use Rattle.trace.specs.Meaning.{entryOf, readingOf, PlacesFit, RecordSays}
 use Rattle.trace.proofs.Decoded.{ReadAt, record-read}
-use Rattle.trace.proofs.WellFormed.{FitsEvent}
+use Rattle.trace.specs.WellFormed.{FitsEvent}
 use Rattle.trace.proofs.Entries.{sound-fits, opening-fits}
 use Rattle.trace.specs.declared.records.Record.{Record}
 use Rattle.trace.specs.declared.records.Record.the-variants.{Shift, Commit}

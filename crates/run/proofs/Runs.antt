@@ -20,7 +20,8 @@ use Rattle.trace.specs.Meaning.{entryOf, readingOf, RecordSays, InFormAt}
 use Rattle.trace.specs.declared.records.Record.{Record}
 use Rattle.trace.specs.declared.records.Reading.the-variants.{Whole}
 use Rattle.trace.proofs.Decoded.{ReadAt, record-read}
-use Rattle.trace.proofs.Entries.{FitsEntry, sound-fits}
+use Rattle.trace.specs.WellFormed.{FitsEntry}
+use Rattle.trace.proofs.Entries.{sound-fits}
 use Rattle.trace.proofs.Fits.{commit-fits}
 use Rattle.trace.proofs.InForm.{First, first-in-form, entries-first}
 use Rattle.levels.specs.Level.{Level, Failure, failsEvent}

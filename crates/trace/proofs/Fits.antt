@@ -13,7 +13,8 @@ use Rattle.store.specs.Update.{sameAccess, valueOf}
 use Rattle.store.specs.Sound as Store
 use Rattle.store.proofs.Run.{FitsAll}
 use Rattle.trace.specs.Format.{Trace}
-use Rattle.trace.proofs.WellFormed.{rank, Rise, FitsCommit, FitsEvents, WellFormed}
+use Rattle.trace.specs.WellFormed.{rank, Rise, FitsCommit}
+use Rattle.trace.proofs.WellFormed.{FitsEvents, WellFormed}
 
 -- a key at which the operations have a value is a key of the store
 valueOf-key : (a : Access) (keys low : ℕ) (os : List Operation) (k : Key) → Rise keys low os → T (isSome (valueOf a os k)) → k < keys

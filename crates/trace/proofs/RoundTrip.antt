@@ -24,7 +24,8 @@ use Rattle.trace.specs.Format.{Header, Trace, viewAt, accessOf, operatio
 use Rattle.trace.specs.Encode.{accessNumber, operationBytes, operationsBytes, viewBytes, eventBytes, eventsBytes, fileBody, encode}
 use Rattle.trace.proofs.Sizes.{length-operationBytes, length-operationsBytes, eventLength, length-eventBytes, eventsLength, length-fileBody, length-encode}
 use Rattle.trace.proofs.Tests.{operationFits-is, withinLimits-is}
-use Rattle.trace.proofs.WellFormed.{rank, FitsOperation, Rise, accessNumber-le-one, rising-length, FitsShift, FitsCommit, FitsEvent, FitsEvents, WellFormed}
+use Rattle.trace.specs.WellFormed.{rank, FitsOperation, Rise, FitsShift, FitsCommit, FitsEvent}
+use Rattle.trace.proofs.WellFormed.{accessNumber-le-one, rising-length, FitsEvents, WellFormed}
 use Rattle.trace.proofs.Entries.{inFull, event-inFull, eventsOf-inFull, commitsWith-commitsIn}
 
 -- the header of a trace
