@@ -67,14 +67,14 @@ not-read {file = file} {n = n} w q f = absurd (not-whole (sym (ap (meaning file 
 -- ---- a shift
 
 module _ (file : List ℕ) (n client masks next made : ℕ) {r : Record} (is : r ≡ Records.Shift client masks next) (number : ℕ) {versions keys views seen views′ seen′ : List ℕ} (o : Outcome)
-    (answer : (g : Configuration) (i : ℕ) → ShiftGiven g file masks client n versions keys views seen → outcomeOf i o ≡ refusesEvent i g (shift client (viewAt file masks n)))
-    (kept : (g : Configuration) → ShiftGiven g file masks client n versions keys views seen → o ≡ Taken → KeepsViews (step g (shift client (viewAt file masks n))) views′ seen′) where
+    (answer : (g : Configuration) (i : ℕ) → ShiftGiven g (viewAt file masks n) n versions keys views seen → outcomeOf i o ≡ refusesEvent i g (shift client (viewAt file masks n)))
+    (kept : (g : Configuration) → ShiftGiven g (viewAt file masks n) n versions keys views seen → o ≡ Taken → KeepsViews (step g (shift client (viewAt file masks n))) views′ seen′) where
   shift-event : {clients m : ℕ} {e : Event} → Fitting file n clients made r e m → (shift client (viewAt file masks n) ≡ e) × (next ≡ m)
   unfolding meaning
   shift-event f = whole-same (sym (ap (meaning file n) is) ∙ f .means)
 
   module _ {sessions commits links verdicts values : List ℕ} (g : Configuration) (fs : Level → Option Failure) (s : Standing g fs n made versions keys views seen sessions commits links verdicts values) where
-    shift-given : {clients : ℕ} → FitsEvent n clients (shift client (viewAt file masks n)) → ShiftGiven g file masks client n versions keys views seen
+    shift-given : {clients : ℕ} → FitsEvent n clients (shift client (viewAt file masks n)) → ShiftGiven g (viewAt file masks n) n versions keys views seen
     shift-given f = record {
       sound = s .sound;
       ordered = s .ordered;
@@ -94,7 +94,7 @@ module _ (file : List ℕ) (n client masks next made : ℕ) {r : Record} (is : r
         or-none none = refl
         or-none (some x) = refl
 
-    shift-says : ShiftGiven g file masks client n versions keys views seen → (x : Outcome) → o ≡ x
+    shift-says : ShiftGiven g (viewAt file masks n) n versions keys views seen → (x : Outcome) → o ≡ x
         → NextSays number g fs (shift client (viewAt file masks n)) next versions keys views′ seen′ sessions commits links verdicts values (nextOf x next made)
     unfolding step nextOf
     shift-says given Taken q = record {

@@ -11,14 +11,15 @@ use Rattle.search.proofs.Choose.{choose-yes}
 use Rattle.search.proofs.Tests.{some-none}
 use Rattle.endian.specs.Endian.{leAt}
 use Rattle.store.specs.Limits.{maxKeys, maxClients}
-use Rattle.store.specs.Store.{Client, View, Store, Configuration, shift}
+use Rattle.store.specs.Store.{Client, View, Configuration, shift}
 use Rattle.store.specs.Missing.{Place, missing}
 use Rattle.store.specs.Refusal.{Refusal, badMask, halfHeld, allOf, lost, refuseKey, refusePlace, refusesEvent}
+use Rattle.state.specs.Keeps.{KeepsMasks}
 use Rattle.views.specs.Viewed.{NewMasks}
 use Rattle.trace.specs.Format.{viewAt}
 use Rattle.shifts.specs.declared.Outcome.{Outcome}
 use Rattle.shifts.specs.declared.Outcome.the-variants.{Taken}
-use Rattle.shifts.specs.Outcomes.{outcomeOf, Masks, ShiftTo, ShiftGiven}
+use Rattle.shifts.specs.Outcomes.{outcomeOf, ShiftGiven}
 
 -- ---- codes 10, 11 and 12, in this order, and none
 
@@ -46,23 +47,10 @@ not-taken r e t = some-none (sym e ∙ ap (outcomeOf 0) t)
 
 -- ---- what is given, as each call asks it
 
--- the masks of the record, where code 10 is not due
-pub new-masks : (s : Store) (old u : View) (n : ℕ) (versions keys masks : List ℕ) (base seen : ℕ) (fresh : List ℕ) → Masks s old u n versions keys masks base seen fresh
-    → badMask s u ≡ none → NewMasks s old u n versions keys masks base seen fresh
-new-masks s old u n versions keys masks base seen fresh m e = record {
-  arrays = m .arrays;
-  ordered = m .ordered;
-  view = m .view;
-  seen-is = m .seen-is;
-  in-fresh = m .in-fresh;
-  fits = m .fits;
-  good = e;
-}
-
 -- the masks of the record, and the client's view
-pub masks-given : (g : Configuration) (u : View) (client n : ℕ) (versions keys views seen fresh : List ℕ) → client < maxClients → ShiftTo g u client n versions keys views seen fresh
-    → Masks (g .store) (g .views client) u n versions keys views (16 * client) (getD seen client 0) fresh
-masks-given g u client n versions keys views seen fresh b h = record {
+pub masks-given : (g : Configuration) (u : View) (client n : ℕ) (versions keys views seen fresh : List ℕ) → client < maxClients → ShiftGiven g u n versions keys views seen → KeepsMasks n u fresh
+    → NewMasks (g .store) (g .views client) u n versions keys views (16 * client) (getD seen client 0) fresh
+masks-given g u client n versions keys views seen fresh b h f = record {
   arrays = record {
     number = h .keys-are;
     sound = h .sound .store;
@@ -74,26 +62,15 @@ masks-given g u client n versions keys views seen fresh b h = record {
   ordered = h .ordered;
   view = h .sound .views client;
   seen-is = h .in-views .holds client b;
-  in-fresh = h .in-fresh;
+  in-fresh = f;
   fits = h .fits;
 }
 
-mask-read : (file : List ℕ) (masks n k : ℕ) → k < n → viewAt file masks n k ≡ leAt file (masks + 8 * k) 8
+-- the masks of a record, once they are read
+pub masks-read : (file : List ℕ) (masks n : ℕ) (fresh : List ℕ) → length fresh ≡ maxKeys → ((k : ℕ) → k < n → getD fresh k 0 ≡ leAt file (masks + 8 * k) 8)
+    → KeepsMasks n (viewAt file masks n) fresh
 unfolding viewAt
-mask-read file masks n k l = choose-yes (ltb k n) (leAt file (masks + 8 * k) 8) 0 (lt→ltb k n l)
-
--- the masks in the file, once they are read
-pub shift-to : (g : Configuration) (file : List ℕ) (masks client n : ℕ) (versions keys views seen fresh : List ℕ) → ShiftGiven g file masks client n versions keys views seen
-    → length fresh ≡ maxKeys → ((k : ℕ) → k < n → getD fresh k 0 ≡ leAt file (masks + 8 * k) 8)
-    → ShiftTo g (viewAt file masks n) client n versions keys views seen fresh
-shift-to g file masks client n versions keys views seen fresh h e f = record {
-  sound = h .sound;
-  ordered = h .ordered;
-  few = h .few;
-  keys-are = h .keys-are;
-  in-versions = h .in-versions;
-  in-keys = h .in-keys;
-  in-views = h .in-views;
-  in-fresh = record { room = e; masks = λ k l. f k l ∙ sym (mask-read file masks n k l) };
-  fits = h .fits;
+masks-read file masks n fresh long same = record {
+  room = long;
+  masks = λ k l. same k l ∙ sym (choose-yes (ltb k n) (leAt file (masks + 8 * k) 8) 0 (lt→ltb k n l));
 }

@@ -3,17 +3,14 @@ use Prim.Native.Nat.{ℕ, _≤_}
 use mathlib.Core.Path.{_≡_}
 use mathlib.Core.Option.{Option, some, none}
 use mathlib.Core.List.{List}
-use Rattle.sets.specs.Set.{Set}
 use Rattle.dependencies.specs.History as D
 use Rattle.store.specs.Limits.{maxCommits}
 use Rattle.store.specs.Store.{View, Store, Configuration}
 use Rattle.store.specs.Refusal.{Refusal, badMask, halfHeld}
-use Rattle.store.proofs.Sound.{IsView, Sound, FitsView}
+use Rattle.store.proofs.Sound.{Sound, FitsView}
 use Rattle.store.proofs.Links.{history, held}
 use Rattle.growth.proofs.Ordered.{Ordered}
-use Rattle.state.specs.Keeps.{IsSet, KeepsMasks, KeepsVersions, KeepsKeys, KeepsViews}
-use Rattle.views.specs.Rules.{StoreAndView}
-use Rattle.trace.specs.Format.{viewAt}
+use Rattle.state.specs.Keeps.{IsSet, KeepsVersions, KeepsKeys, KeepsViews}
 use Rattle.shifts.specs.declared.Outcome.{Outcome}
 use Rattle.shifts.specs.declared.Outcome.the-variants.{Taken, Refused}
 use Rattle.shifts.specs.declared.Sight.{Sight}
@@ -30,17 +27,8 @@ SightSays s u (Bad k) = badMask s u ≡ some (k .0)
 SightSays s u (Half k v) = (badMask s u ≡ none) × (halfHeld s u ≡ some (record { key = k .0; version = v .0 }))
 SightSays s u (Holds m) = (badMask s u ≡ none) × (halfHeld s u ≡ none) × IsSet m (D.Holds (history s) (held u))
 
--- masks u of a record over the view `old` of the store, which the arrays keep at `base`, with the commits that it holds in `seen`
-pub record Masks (s : Store) (old u : View) (n : ℕ) (versions keys masks : List ℕ) (base : ℕ) (seen : Set) (fresh : List ℕ) : Type 0 where
-  pub arrays : StoreAndView s old n versions keys masks base
-  pub ordered : Ordered s
-  pub view : IsView s old
-  pub seen-is : IsSet seen (D.Holds (history s) (held old))
-  pub in-fresh : KeepsMasks n u fresh
-  pub fits : FitsView n u
-
--- a shift of a client to the masks at a place of the file, on a configuration that the arrays keep
-pub record ShiftGiven (g : Configuration) (file : List ℕ) (masks client n : ℕ) (versions keys views seen : List ℕ) : Type 0 where
+-- a shift to masks u, on a configuration that the arrays keep
+pub record ShiftGiven (g : Configuration) (u : View) (n : ℕ) (versions keys views seen : List ℕ) : Type 0 where
   pub sound : Sound g
   pub ordered : Ordered (g .store)
   pub few : g .store .commits ≤ maxCommits
@@ -48,16 +36,4 @@ pub record ShiftGiven (g : Configuration) (file : List ℕ) (masks client n : �
   pub in-versions : KeepsVersions (g .store) versions
   pub in-keys : KeepsKeys (g .store) keys
   pub in-views : KeepsViews g views seen
-  pub fits : FitsView n (viewAt file masks n)
-
--- the same of masks u that stand in an array
-pub record ShiftTo (g : Configuration) (u : View) (client n : ℕ) (versions keys views seen fresh : List ℕ) : Type 0 where
-  pub sound : Sound g
-  pub ordered : Ordered (g .store)
-  pub few : g .store .commits ≤ maxCommits
-  pub keys-are : g .store .keys ≡ n
-  pub in-versions : KeepsVersions (g .store) versions
-  pub in-keys : KeepsKeys (g .store) keys
-  pub in-views : KeepsViews g views seen
-  pub in-fresh : KeepsMasks n u fresh
   pub fits : FitsView n u

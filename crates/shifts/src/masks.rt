@@ -7,7 +7,8 @@ ghost use Prim.Native.Nat.{_+_, _≤_};
 ghost use mathlib.Core.Path.{_≡_};
 ghost use lib.ListN.{length};
 ghost use Rattle.store.specs.Store.{View, Store};
-ghost use Rattle.shifts.specs.Outcomes.{Masks, SightSays};
+ghost use Rattle.views.specs.Viewed.{NewMasks};
+ghost use Rattle.shifts.specs.Outcomes.{SightSays};
 
 // Codes 10 and 11, and the commits of which the masks hold a version. The client's view stands at `base` and holds the commits `seen`.
 pub fn sight(
@@ -21,7 +22,7 @@ pub fn sight(
 ) -> Sight
     requires { ⌜ (1 ≤ n) × (n ≤ 16) × (length (now versions) ≡ 2048) × (length (now keys) ≡ 32) × (length (now fresh) ≡ 16) × (base + n ≤ length (now views)) ⌝ }
     ensures { λ r. ⌜
-        ((s : Store) (old u : View) → Masks s old u n (now (versions .entry)) (now (keys .entry)) (now (views .entry)) base seen (now (fresh .entry))
+        ((s : Store) (old u : View) → NewMasks s old u n (now (versions .entry)) (now (keys .entry)) (now (views .entry)) base seen (now (fresh .entry))
         → SightSays s u r)
         ⌝ }
 {

@@ -12,10 +12,10 @@ ghost use lib.ListN.{length, getD};
 ghost use Rattle.store.specs.Store.{View, Configuration, shift};
 ghost use Rattle.store.specs.Update.{step};
 ghost use Rattle.store.specs.Refusal.{refusesEvent};
-ghost use Rattle.state.specs.Keeps.{KeepsViews};
+ghost use Rattle.state.specs.Keeps.{KeepsViews, KeepsMasks};
 ghost use Rattle.trace.specs.Format.{viewAt};
 ghost use Rattle.shifts.specs.declared.Outcome.the-variants.{Taken};
-ghost use Rattle.shifts.specs.Outcomes.{outcomeOf, ShiftGiven, ShiftTo};
+ghost use Rattle.shifts.specs.Outcomes.{outcomeOf, ShiftGiven};
 
 // The masks in `fresh` are all versions that there are: no code is due, and they become the client's view, which holds all commits that wrote
 // something.
@@ -30,11 +30,11 @@ fn whole_store(
     requires { ⌜ (n ≤ 16) × (client < 16) × (length (now keys) ≡ 32) × (length (now views) ≡ 256) × (length (now seen) ≡ 16) × (length (now fresh) ≡ 16) ⌝ }
     requires { ⌜ ((k : ℕ) → k < n → getD (now fresh) k 0 ≡ getD (now keys) (0 + k) 0) ⌝ }
     ensures answer { λ r. ⌜
-        ((g : Configuration) (u : View) (versions : List ℕ) (i : ℕ) → ShiftTo g u client n versions (now (keys .entry)) (now (views .entry)) (now (seen .entry)) (now (fresh .entry))
+        ((g : Configuration) (u : View) (versions : List ℕ) (i : ℕ) → ShiftGiven g u n versions (now (keys .entry)) (now (views .entry)) (now (seen .entry)) → KeepsMasks n u (now (fresh .entry))
         → outcomeOf i r ≡ refusesEvent i g (shift client u))
         ⌝ }
     ensures kept { λ r. ⌜
-        ((g : Configuration) (u : View) (versions : List ℕ) → ShiftTo g u client n versions (now (keys .entry)) (now (views .entry)) (now (seen .entry)) (now (fresh .entry))
+        ((g : Configuration) (u : View) (versions : List ℕ) → ShiftGiven g u n versions (now (keys .entry)) (now (views .entry)) (now (seen .entry)) → KeepsMasks n u (now (fresh .entry))
         → r ≡ Taken → KeepsViews (step g (shift client u)) (now (views .exit)) (now (seen .exit)))
         ⌝ }
 {
@@ -57,11 +57,11 @@ fn shift_on(
     requires { ⌜ (1 ≤ n) × (n ≤ 16) × (client < 16) ⌝ }
     requires { ⌜ (length (now versions) ≡ 2048) × (length (now keys) ≡ 32) × (length (now views) ≡ 256) × (length (now seen) ≡ 16) × (length (now fresh) ≡ 16) ⌝ }
     ensures answer { λ r. ⌜
-        ((g : Configuration) (u : View) (i : ℕ) → ShiftTo g u client n (now (versions .entry)) (now (keys .entry)) (now (views .entry)) (now (seen .entry)) (now (fresh .entry))
+        ((g : Configuration) (u : View) (i : ℕ) → ShiftGiven g u n (now (versions .entry)) (now (keys .entry)) (now (views .entry)) (now (seen .entry)) → KeepsMasks n u (now (fresh .entry))
         → outcomeOf i r ≡ refusesEvent i g (shift client u))
         ⌝ }
     ensures kept { λ r. ⌜
-        ((g : Configuration) (u : View) → ShiftTo g u client n (now (versions .entry)) (now (keys .entry)) (now (views .entry)) (now (seen .entry)) (now (fresh .entry))
+        ((g : Configuration) (u : View) → ShiftGiven g u n (now (versions .entry)) (now (keys .entry)) (now (views .entry)) (now (seen .entry)) → KeepsMasks n u (now (fresh .entry))
         → r ≡ Taken → KeepsViews (step g (shift client u)) (now (views .exit)) (now (seen .exit)))
         ⌝ }
 {
@@ -110,11 +110,11 @@ pub fn shift_to(
     requires { ⌜ (1 ≤ n) × (n ≤ 16) × (client < 16) × (masks + 8 * n ≤ length (now file)) ⌝ }
     requires { ⌜ (length (now versions) ≡ 2048) × (length (now keys) ≡ 32) × (length (now views) ≡ 256) × (length (now seen) ≡ 16) × (length (now fresh) ≡ 16) ⌝ }
     ensures answer { λ r. ⌜
-        ((g : Configuration) (i : ℕ) → ShiftGiven g (now (file .entry)) masks client n (now (versions .entry)) (now (keys .entry)) (now (views .entry)) (now (seen .entry))
+        ((g : Configuration) (i : ℕ) → ShiftGiven g (viewAt (now (file .entry)) masks n) n (now (versions .entry)) (now (keys .entry)) (now (views .entry)) (now (seen .entry))
         → outcomeOf i r ≡ refusesEvent i g (shift client (viewAt (now (file .entry)) masks n)))
         ⌝ }
     ensures kept { λ r. ⌜
-        ((g : Configuration) → ShiftGiven g (now (file .entry)) masks client n (now (versions .entry)) (now (keys .entry)) (now (views .entry)) (now (seen .entry))
+        ((g : Configuration) → ShiftGiven g (viewAt (now (file .entry)) masks n) n (now (versions .entry)) (now (keys .entry)) (now (views .entry)) (now (seen .entry))
         → r ≡ Taken → KeepsViews (step g (shift client (viewAt (now (file .entry)) masks n))) (now (views .exit)) (now (seen .exit)))
         ⌝ }
 {

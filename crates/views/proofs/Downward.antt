@@ -19,7 +19,7 @@ use Rattle.sets.proofs.Algebra.{has-union, both-is, subset-is, same-sets, empty
 use Rattle.sets.proofs.Words.{and-pred}
 use Rattle.dependencies.specs.History.{Holds}
 use Rattle.store.specs.Store.{Key, CommitNumber, View, Store, count, version}
-use Rattle.store.specs.Refusal.{halfHeld, wholeWriters}
+use Rattle.store.specs.Refusal.{badMask, halfHeld, wholeWriters}
 use Rattle.store.proofs.Updated.{Wrote}
 use Rattle.store.proofs.Missing.{missing-none}
 use Rattle.store.proofs.Links.{history, held, holds-means}
@@ -73,7 +73,7 @@ no-gaps m e = eqb→eq m 0 (true-T _ e)
 -- ---- the writers of one key
 
 module _ (s : Store) (old u : View) (n : ℕ) (versions keys masks : List ℕ) (base : ℕ) (seen : Set) (fresh : List ℕ)
-    (m : NewMasks s old u n versions keys masks base seen fresh) where
+    (m : NewMasks s old u n versions keys masks base seen fresh) (good : badMask s u ≡ none) where
   -- t wrote a version of key k that the masks hold; that they lack
   abbrev pub HeldAt : Key → CommitNumber → Type 0
   HeldAt k t = (i : ℕ) × T (has (u k) i) × Wrote s t k i
@@ -89,10 +89,10 @@ module _ (s : Store) (old u : View) (n : ℕ) (versions keys masks : List ℕ) (
     below-keys = omega (arith, m .arrays .number)
 
     top-held : T (has (u k) (highest (u k)))
-    top-held = has-highest (u k) (let x : 2 ^ 0 ≤ u k = has-large (u k) 0 (mask-holds s u (m .good) k below-keys (m .fits .word k) .0) in omega (arith, pow-pos 0)) (m .fits .word k)
+    top-held = has-highest (u k) (let x : 2 ^ 0 ≤ u k = has-large (u k) 0 (mask-holds s u good k below-keys (m .fits .word k) .0) in omega (arith, pow-pos 0)) (m .fits .word k)
 
     top-there : highest (u k) < count s k
-    top-there = exist s old u n versions keys masks base seen fresh m k (highest (u k)) top-held
+    top-there = exist s old u n versions keys masks base seen fresh m good k (highest (u k)) top-held
 
     top-wrote : Wrote s w k (highest (u k))
     top-wrote = (top-there, sym (e ∙ ap (λ (j : ℕ). writerIn (getD versions (headPlace k j) 0)) (d ∙ ap highest mask) ∙ writer-in s old n versions keys masks base (m .arrays) k (highest (u k)) top-there))
@@ -130,7 +130,7 @@ module _ (s : Store) (old u : View) (n : ℕ) (versions keys masks : List ℕ) (
   -- ---- all keys together
 
   pub held-all : (h : Set) → IsSet h (λ t. (k : Key) × (k < n) × HeldAt k t) → IsSet h (Holds (history s) (held u))
-  held-all h = isSet-as h (λ t. (λ (k, _, (i, x, y)). (k, i, x, y), λ (k, i, x, y). (k, (let z : k < s .keys = key-of s old u n versions keys masks base seen fresh m k i x in omega (arith, m .arrays .number)), (i, x, y))))
+  held-all h = isSet-as h (λ t. (λ (k, _, (i, x, y)). (k, i, x, y), λ (k, i, x, y). (k, (let z : k < s .keys = key-of s old u n versions keys masks base seen fresh m good k i x in omega (arith, m .arrays .number)), (i, x, y))))
 
   pub lacked-all : (h : Set) → IsSet h (λ t. (k : Key) × (k < n) × LackedAt k t) → IsSet h (Lacks s u)
   lacked-all h = isSet-as h (λ t. (λ (k, _, x). (k, x), λ (k, (i, x, y)). (k, (let z : k < s .keys = m .arrays .sound .only-keys k i (y .0) in omega (arith, m .arrays .number)), (i, x, y))))

@@ -2,6 +2,7 @@
 use Prim.Native.Nat.{ℕ, _+_, _^_, _≤_, _<_}
 use mathlib.Core.Path.{_≡_, sym, ap, _∙_, subst}
 use mathlib.Core.List.{List}
+use mathlib.Core.Option.{none}
 use native.Mathlib.Omega.{arith}
 use native.Mathlib.Decide.{decLt}
 use lib.Dec.{T, ltb, lt→ltb, ltb→lt, not-T, lit<}
@@ -12,6 +13,7 @@ use Rattle.sets.specs.Set.{Set, has}
 use Rattle.sets.proofs.Laws.{has-none, has-lt}
 use Rattle.dependencies.specs.History.{Holds}
 use Rattle.store.specs.Store.{View, Store, count, version}
+use Rattle.store.specs.Refusal.{badMask}
 use Rattle.store.proofs.Updated.{Wrote}
 use Rattle.store.proofs.Sound.{IsView, SoundStore}
 use Rattle.store.proofs.Links.{history, held}
@@ -96,10 +98,9 @@ module _ (s : Store) (old u : View) (n : ℕ) (versions keys masks : List ℕ) (
     seen-is = opening-holds s (m .arrays .sound) (m .ordered) (omega (arith, m .arrays .number));
     in-fresh = m .in-fresh;
     fits = m .fits;
-    good = m .good;
   }
 
-  pub opening-grows : (k i : ℕ) → T (has (openingView (s .keys) k) i) → T (has (u k) i)
-  opening-grows k i x =
+  pub opening-grows : badMask s u ≡ none → (k i : ℕ) → T (has (openingView (s .keys) k) i) → T (has (u k) i)
+  opening-grows good k i x =
       let z = only-zero (s .keys) k i x in
-      subst (λ (a : ℕ). T (has (u k) a)) (sym (z .1)) (mask-holds s u (m .good) k (z .0) (m .fits .word k) .0)
+      subst (λ (a : ℕ). T (has (u k) a)) (sym (z .1)) (mask-holds s u good k (z .0) (m .fits .word k) .0)

@@ -4,11 +4,13 @@ use crate::masks;
 use crate::missing;
 use crate::prefix;
 ghost use mathlib.Core.Path.{_≡_};
+ghost use mathlib.Core.Option.{none};
 ghost use Prim.Native.Nat.{ℕ, _+_, _<_, _≤_};
 ghost use lib.Dec.{T};
 ghost use lib.ListN.{length};
 ghost use Rattle.sets.specs.Set.{has};
 ghost use Rattle.store.specs.Store.{View, Store};
+ghost use Rattle.store.specs.Refusal.{badMask};
 ghost use Rattle.state.specs.Keeps.{IsSet};
 ghost use Rattle.views.specs.Gained.{WriterAmong, WriterBelow, Gains, LackingBelow};
 ghost use Rattle.views.specs.Viewed.{ViewedAs, NewMasks};
@@ -90,7 +92,7 @@ fn grown(
     n: usize,
 ) -> Viewed
     requires { ⌜ (n ≤ 16) × (length (now versions) ≡ 2048) × (length (now keys) ≡ 32) × (length (now fresh) ≡ 16) × (base + n ≤ length (now masks)) ⌝ }
-    ensures { λ r. ⌜ ((s : Store) (old u : View) → NewMasks s old u n (now (versions .entry)) (now (keys .entry)) (now (masks .entry)) base seen (now (fresh .entry)) → ((k i : ℕ) → T (has (old k) i) → T (has (u k) i)) → ViewedAs s u r) ⌝ }
+    ensures { λ r. ⌜ ((s : Store) (old u : View) → NewMasks s old u n (now (versions .entry)) (now (keys .entry)) (now (masks .entry)) base seen (now (fresh .entry)) → badMask s u ≡ none → ((k i : ℕ) → T (has (old k) i) → T (has (u k) i)) → ViewedAs s u r) ⌝ }
 {
     let mut gain = [0u64; 16];
     let all = gained(versions, fresh, masks, base, &mut gain, n);
@@ -105,7 +107,7 @@ fn grown(
     }
 }
 
-// Code 11, and the commits of which the masks hold a version: by difference from the client's view at `base`, where the masks hold all of
+// Code 11, where code 10 is not due, and the commits of which the masks hold a version: by difference from the client's view at `base`, where the masks hold all of
 // it, and else from the opening view. Three common cases are answered at once: all versions that there are, the client's view itself,
 // and all versions of each key up to some.
 pub fn viewed(
@@ -118,7 +120,7 @@ pub fn viewed(
     n: usize,
 ) -> Viewed
     requires { ⌜ (1 ≤ n) × (n ≤ 16) × (length (now versions) ≡ 2048) × (length (now keys) ≡ 32) × (length (now fresh) ≡ 16) × (base + n ≤ length (now views)) ⌝ }
-    ensures { λ r. ⌜ ((s : Store) (old u : View) → NewMasks s old u n (now (versions .entry)) (now (keys .entry)) (now (views .entry)) base seen (now (fresh .entry)) → ViewedAs s u r) ⌝ }
+    ensures { λ r. ⌜ ((s : Store) (old u : View) → NewMasks s old u n (now (versions .entry)) (now (keys .entry)) (now (views .entry)) base seen (now (fresh .entry)) → badMask s u ≡ none → ViewedAs s u r) ⌝ }
 {
     if masks::same(fresh, keys, 0, n) {
         return Viewed::Holds(all_writers(keys, n));

@@ -3,11 +3,13 @@
 // without a look at each version.
 ghost use mathlib.Core.Path.{_≡_};
 ghost use mathlib.Core.Bool.{true};
+ghost use mathlib.Core.Option.{none};
 ghost use mathlib.Core.List.{List};
 ghost use Prim.Native.Nat.{ℕ, _<_, _≤_};
 ghost use lib.ListN.{length};
 ghost use Rattle.dependencies.specs.History.{Holds};
 ghost use Rattle.store.specs.Store.{View, Store};
+ghost use Rattle.store.specs.Refusal.{badMask};
 ghost use Rattle.store.proofs.Links.{history, held};
 ghost use Rattle.state.specs.Keeps.{IsSet};
 ghost use Rattle.views.specs.Viewed.{NewMasks};
@@ -45,7 +47,7 @@ pub struct Parts {
 pub fn split(versions: &[u64], keys: &[u64], fresh: &[u64], n: usize) -> Parts
     requires { ⌜ (n ≤ 16) × (length (now versions) ≡ 2048) × (length (now keys) ≡ 32) × (length (now fresh) ≡ 16) ⌝ }
     ensures { λ r. ⌜ ((s : Store) (old u : View) (masks : List ℕ) (base seen : ℕ)
-        → NewMasks s old u n (now (versions .entry)) (now (keys .entry)) masks base seen (now (fresh .entry)) → Prefixes (now (fresh .entry)) n
+        → NewMasks s old u n (now (versions .entry)) (now (keys .entry)) masks base seen (now (fresh .entry)) → badMask s u ≡ none → Prefixes (now (fresh .entry)) n
         → IsSet (r .held) (Holds (history s) (held u)) × IsSet (r .lacking) (Lacks s u)) ⌝ }
 {
     let mut held = 0u64;

@@ -4,7 +4,6 @@ use mathlib.Core.Option.{none}
 use Rattle.store.specs.Refusal.{badMask}
 use Rattle.state.specs.Answers.{keyOf}
 use Rattle.views.specs.Viewed.{ViewedAs}
-use Rattle.shifts.proofs.Refused.{new-masks}
 use borrow.Author.Needs.{needs}
 use Rattle.shifts.proofs.masks.sight.Statement.{statement}
 use Rattle.shifts.proofs.masks.sight.Tie as tie
@@ -33,13 +32,13 @@ enum-known-v-2 c = search needs
 returns-2 : tie.Need-returns-2
 returns-2 c = λ s old u m.
     let good : badMask s u ≡ none = sym (c .before .before .before .before .before .before .bad-mask .ensures s u (m .arrays .number) (m .arrays .in-keys) (m .in-fresh)) ∙ ap keyOf (c .before .before .before .before .enum-told .given .1) in
-    let x = subst (ViewedAs s u) (c .before .v .given .1) (c .before .before .before .viewed .ensures s old u (new-masks s old u _ _ _ _ _ _ _ m good)) in
+    let x = subst (ViewedAs s u) (c .before .v .given .1) (c .before .before .before .viewed .ensures s old u m good) in
     (good, x .0, x .1)
 
 returns-3 : tie.Need-returns-3
 returns-3 c = λ s old u m.
     let good : badMask s u ≡ none = sym (c .before .before .before .before .before .before .bad-mask .ensures s u (m .arrays .number) (m .arrays .in-keys) (m .in-fresh)) ∙ ap keyOf (c .before .before .before .before .enum-told .given .1) in
-    let x = subst (ViewedAs s u) (c .before .v2 .given .1) (c .before .before .before .viewed .ensures s old u (new-masks s old u _ _ _ _ _ _ _ m good)) in
+    let x = subst (ViewedAs s u) (c .before .v2 .given .1) (c .before .before .before .viewed .ensures s old u m good) in
     (good, x)
 
 pub sight-spec : {M : Type 1} → statement M

@@ -24,8 +24,8 @@ same-length-2 c = search needs
 
 returns : tie.Need-returns
 returns c = (
-  λ g u i h. c .before .before .before .before .whole-store .ensures .0 g u _ i h,
-  λ g u h. c .before .before .before .before .whole-store .ensures .1 g u _ h,
+  λ g u i h f. c .before .before .before .before .whole-store .ensures .0 g u _ i h f,
+  λ g u h f. c .before .before .before .before .whole-store .ensures .1 g u _ h f,
 )
 
 mul-base : tie.Need-mul-base
@@ -59,12 +59,12 @@ same-length-3 : tie.Need-same-length-3
 same-length-3 c = search needs
 
 returns-2 : tie.Need-returns-2
-returns-2 c = (
-  λ g u i h.
-      let given = masks-given g u _ _ _ _ _ _ _ (omega arith) h in
+returns-2 c = let entry = c .before .before .before .before .before .before .before .before .before .before .before .before .before .before .before .before .before .before in (
+  λ g u i h f.
+      let given = masks-given g u (entry .args .client) _ _ _ _ _ _ (omega arith) h f in
       let x = subst (SightSays (g .store) u) (c .before .before .before .before .before .before .m .given .1) (c .before .before .before .before .before .before .before .before .sight .ensures (g .store) (g .views _) u given) in
-      refused-12 i g _ u _ (x .0) (x .1) (sym (c .before .before .before .lost .ensures (g .store) (g .views _) u (h .keys-are) (h .sound .views _) (given .arrays .in-masks) (h .in-fresh)) ∙ ap placeOf (c .before .k3 .given .1)),
-  λ g u h. not-taken _ refl,
+      refused-12 i g _ u _ (x .0) (x .1) (sym (c .before .before .before .lost .ensures (g .store) (g .views _) u (h .keys-are) (h .sound .views _) (given .arrays .in-masks) f) ∙ ap placeOf (c .before .k3 .given .1)),
+  λ g u h f. not-taken _ refl,
 )
 
 enum-told : tie.Need-enum-told
@@ -84,8 +84,8 @@ same-length-4 c = search needs
 
 returns-3 : tie.Need-returns-3
 returns-3 c = (
-  λ g u i h. refused-10 i g _ u _ (subst (SightSays (g .store) u) (c .before .k .given .1) (c .before .before .before .sight .ensures (g .store) (g .views _) u (masks-given g u _ _ _ _ _ _ _ (omega arith) h))),
-  λ g u h. not-taken _ refl,
+  λ g u i h f. refused-10 i g _ u _ (subst (SightSays (g .store) u) (c .before .k .given .1) (c .before .before .before .sight .ensures (g .store) (g .views _) u (masks-given g u _ _ _ _ _ _ _ (omega arith) h f))),
+  λ g u h f. not-taken _ refl,
 )
 
 same-length-5 : tie.Need-same-length-5
@@ -93,10 +93,10 @@ same-length-5 c = search needs
 
 returns-4 : tie.Need-returns-4
 returns-4 c = (
-  λ g u i h.
-      let x = subst (SightSays (g .store) u) (c .before .k2 .given .1) (c .before .before .before .sight .ensures (g .store) (g .views _) u (masks-given g u _ _ _ _ _ _ _ (omega arith) h)) in
+  λ g u i h f.
+      let x = subst (SightSays (g .store) u) (c .before .k2 .given .1) (c .before .before .before .sight .ensures (g .store) (g .views _) u (masks-given g u _ _ _ _ _ _ _ (omega arith) h f)) in
       refused-11 i g _ u _ (x .0) (x .1),
-  λ g u h. not-taken _ refl,
+  λ g u h f. not-taken _ refl,
 )
 
 same-length-6 : tie.Need-same-length-6
@@ -106,14 +106,14 @@ same-length-7 : tie.Need-same-length-7
 same-length-7 c = search needs
 
 returns-5 : tie.Need-returns-5
-returns-5 c = let small = c .before .before .before .before .before .before .before .before .before .before .before .before .before .before .before .before .before .before .before .before .before .pre .0 in (
-  λ g u i h.
-      let given = masks-given g u _ _ _ _ _ _ _ (omega (arith, small)) h in
+returns-5 c = let entry = c .before .before .before .before .before .before .before .before .before .before .before .before .before .before .before .before .before .before .before .before .before in let small = entry .pre .0 in (
+  λ g u i h f.
+      let given = masks-given g u (entry .args .client) _ _ _ _ _ _ (omega (arith, small)) h f in
       let x = subst (SightSays (g .store) u) (c .before .before .before .before .before .before .before .before .before .m .given .1) (c .before .before .before .before .before .before .before .before .before .before .before .sight .ensures (g .store) (g .views _) u given) in
-      not-refused i g _ u (x .0) (x .1) (sym (c .before .before .before .before .before .before .lost .ensures (g .store) (g .views _) u (h .keys-are) (h .sound .views _) (given .arrays .in-masks) (h .in-fresh)) ∙ ap placeOf (c .before .before .before .before .enum-told .given .1)),
-  λ g u h e.
-      let x = subst (SightSays (g .store) u) (c .before .before .before .before .before .before .before .before .before .m .given .1) (c .before .before .before .before .before .before .before .before .before .before .before .sight .ensures (g .store) (g .views _) u (masks-given g u _ _ _ _ _ _ _ (omega (arith, small)) h)) in
-      shift-replaces g _ u _ (omega (arith, small)) (h .keys-are) (omega (arith, small)) _ _ _ _ _ (h .in-views) (h .in-fresh) (c .before .before .keep .ensures) (x .2),
+      not-refused i g _ u (x .0) (x .1) (sym (c .before .before .before .before .before .before .lost .ensures (g .store) (g .views _) u (h .keys-are) (h .sound .views _) (given .arrays .in-masks) f) ∙ ap placeOf (c .before .before .before .before .enum-told .given .1)),
+  λ g u h f e.
+      let x = subst (SightSays (g .store) u) (c .before .before .before .before .before .before .before .before .before .m .given .1) (c .before .before .before .before .before .before .before .before .before .before .before .sight .ensures (g .store) (g .views _) u (masks-given g u (entry .args .client) _ _ _ _ _ _ (omega (arith, small)) h f)) in
+      shift-replaces g _ u _ (omega (arith, small)) (h .keys-are) (omega (arith, small)) _ _ _ _ _ (h .in-views) f (c .before .before .keep .ensures) (x .2),
 )
 
 pub shift-on-spec : {M : Type 1} → statement M
