@@ -50,7 +50,7 @@ module _ (s : Store) (u : View) (k : Key) where
       let m = without mask full in
       let p : 0 < m = omega arith in
       let w = without-is mask full (lowest m) .0 (has-lowest m p (without-word mask full l)) in
-      or-right (not (has (u k) 0)) _ (outside .1 (lowest m, has-lt 64 mask (lowest m) l (w .0), (has-as (lowest m) e (w .0), beyond (lowest m) (w .1) (decLe (count s k) (lowest m)))))
+      or-right (not (has (u k) 0)) _ (outside .1 (lowest m, has-lt width mask (lowest m) l (w .0), (has-as (lowest m) e (w .0), beyond (lowest m) (w .1) (decLe (count s k) (lowest m)))))
     where
       beyond : (i : ℕ) → ¬ T (has full i) → Dec (count s k ≤ i) → count s k ≤ i
       beyond i h (yes x) = x
@@ -74,7 +74,7 @@ module _ (s : Store) (u : View) (k : Key) where
     where
       go : (i : ℕ) → T (has (u k) i) → Dec (i < count s k) → i < count s k
       go i b (yes l) = l
-      go i b (no m) = absurd (n (or-right (not (has (u k) 0)) _ (outside .1 (i, has-lt 64 (u k) i w b, (b, omega arith)))))
+      go i b (no m) = absurd (n (or-right (not (has (u k) 0)) _ (outside .1 (i, has-lt width (u k) i w b, (b, omega arith)))))
 
 pub mask-holds : (s : Store) (u : View) → badMask s u ≡ none → (k : Key) → k < s .keys → u k < 2 ^ 64 → T (has (u k) 0) × ((i : ℕ) → T (has (u k) i) → i < count s k)
 unfolding badMask

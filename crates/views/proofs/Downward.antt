@@ -13,7 +13,7 @@ use lib.Bits.{bitAnd, and-comm}
 use lib.Pow.{pow-pos}
 use lib.ListN.{getD}
 use Rattle.search.proofs.Tests.{stable, true-T, T-false, false-T, same-test, or-left, or-right}
-use Rattle.sets.specs.Set.{Set, has, single, below, union, without, highest, lowest}
+use Rattle.sets.specs.Set.{Set, has, single, below, union, without, highest, lowest, width}
 use Rattle.sets.proofs.Laws.{has-none, has-large, has-below, below-has, has-lowest, has-highest, highest-most, single-only, single-has}
 use Rattle.sets.proofs.Algebra.{has-union, both-is, subset-is, same-sets, empty-is}
 use Rattle.sets.proofs.Words.{and-pred}
@@ -52,7 +52,7 @@ downward m l e = go (decLt (m + 1) (2 ^ 64))
         let y : m + 1 ≡ single (lowest (m + 1)) = alone (m + 1) (omega arith) x (sym (and-pred (m + 1) (omega arith) x) ∙ z) in
         let q : m ≡ below (lowest (m + 1)) = omega arith in
         subst (λ (y : ℕ). Downward y) (sym q) (below-downward (lowest (m + 1)))
-    go (no x) = let q : m ≡ below 64 = omega arith in subst (λ (y : ℕ). Downward y) (sym q) (below-downward 64)
+    go (no x) = let q : m ≡ below width = omega arith in subst (λ (y : ℕ). Downward y) (sym q) (below-downward width)
 
 -- ---- the masks passed by a loop
 

@@ -12,6 +12,7 @@ use Rattle.search.proofs.Choose.{choose-yes, choose-no}
 use Rattle.sets.specs.Set.{Set, has}
 use Rattle.sets.proofs.Laws.{has-none, has-lt}
 use Rattle.dependencies.specs.History.{Holds}
+use Rattle.store.specs.Limits.{maxKeys}
 use Rattle.store.specs.Store.{View, Store, count, version}
 use Rattle.store.specs.Refusal.{badMask}
 use Rattle.store.proofs.Updated.{Wrote}
@@ -83,7 +84,7 @@ module _ (s : Store) (sound : SoundStore s) (o : Ordered s) where
 
 module _ (s : Store) (old u : View) (n : ℕ) (versions keys masks : List ℕ) (base : ℕ) (seen : Set) (fresh : List ℕ)
     (m : NewMasks s old u n versions keys masks base seen fresh) where
-  pub over-opening : 1 ≤ n → n ≤ 16 → NewMasks s (openingView (s .keys)) u n versions keys (replicate 16 1) 0 1 fresh
+  pub over-opening : 1 ≤ n → n ≤ maxKeys → NewMasks s (openingView (s .keys)) u n versions keys (replicate maxKeys 1) 0 1 fresh
   over-opening some few = record {
     arrays = record {
       number = m .arrays .number;
@@ -91,7 +92,7 @@ module _ (s : Store) (old u : View) (n : ℕ) (versions keys masks : List ℕ) (
       few = m .arrays .few;
       in-versions = m .arrays .in-versions;
       in-keys = m .arrays .in-keys;
-      in-masks = λ k l. getD-replicate 16 (0 + k) 1 0 (omega arith) ∙ sym (one-there (s .keys) k (omega (arith, m .arrays .number)));
+      in-masks = λ k l. getD-replicate maxKeys (0 + k) 1 0 (omega arith) ∙ sym (one-there (s .keys) k (omega (arith, m .arrays .number)));
     };
     ordered = m .ordered;
     view = opening-view s (m .arrays .sound) (m .ordered);

@@ -86,9 +86,9 @@ loop-again : tie.Need-loop-again Inv-loop μ-loop
 loop-again c = (
   omega arith,
   λ s old u masks base seen m good p.
-      let x = c .before .before .before .before .before .before .before .before .before .before .before .loop .inv .1 s old u masks base seen m good p in
-      let l = later-is s old u _ _ _ masks base seen _ m good p _ (omega arith) (c .before .before .before .before .before .before .before .before .newest .ensures .0) (c .before .before .before .before .before .before .writer-of .ensures .0) (c .before .before .before .before .up-to .ensures) (c .before .before .before .without .ensures) in
-      let h = held-is s old u _ _ _ masks base seen _ m good p _ (omega arith) (c .before .before .before .before .before .before .before .before .newest .ensures .0) (c .before .before .before .before .before .before .writer-of .ensures .0) (c .before .before .before .before .up-to .ensures) (c .before .before .before .without .ensures) (c .before .before .without2 .ensures) in (
+      let x = c .before .before .before .before .before .before .before .before .before .before .before .before .loop .inv .1 s old u masks base seen m good p in
+      let l = later-is s old u _ _ _ masks base seen _ m good p _ (omega arith) (c .before .before .before .before .before .before .before .before .before .newest .ensures .0) (c .before .before .before .before .before .before .writer-of .ensures .0) (c .before .before .before .before .up-to .ensures) (c .before .before .before .without .ensures) in
+      let h = held-is s old u _ _ _ masks base seen _ m good p _ (omega arith) (c .before .before .before .before .before .before .before .before .before .newest .ensures .0) (c .before .before .before .before .before .before .writer-of .ensures .0) (c .before .before .before .before .up-to .ensures) (c .before .before .before .without .ensures) (c .before .before .without2 .ensures) in (
         key-more (HeldAt s old u _ _ _ masks base seen _ m good) _ (x .0) _ h (c .before .union .ensures),
         key-more (LackedAt s old u _ _ _ masks base seen _ m good) _ (x .1) _ l (c .union2 .ensures),
       ),
