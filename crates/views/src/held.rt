@@ -26,7 +26,10 @@ fn writers_of(versions: &[u64], k: state::Key, set: u64) -> u64
     let mut left = set;
     while left != 0 {
         let v = sets::lowest(left);
-        writers = sets::insert(writers, state::writer_of(versions[state::PER_KEY * k.0 + v]).0);
+        writers = sets::insert(
+            writers,
+            state::writer_of(versions[state::PER_KEY * k.0 + v]).0,
+        );
         left = sets::rest(left);
     }
     writers
@@ -47,7 +50,11 @@ fn gained(
     let mut all = 0u64;
     let mut k: usize = 0;
     while k < n {
-        let writers = writers_of(versions, state::Key(k), sets::without(fresh[k], masks[base + k]));
+        let writers = writers_of(
+            versions,
+            state::Key(k),
+            sets::without(fresh[k], masks[base + k]),
+        );
         gain[k] = writers;
         all = sets::union(all, writers);
         k = k + 1;

@@ -106,7 +106,11 @@ fn apart(mask: u64, view: u64, full: u64, ranks: u64, k: state::Key) -> u64
     ensures { λ r. ⌜ (r ≡ 0) ↔ (mask ≡ union view (ownMask full ranks (k .0))) ⌝ }
 {
     let next = std::num::wrapping_add_u64(full, 1);
-    let own = if sets::has(ranks, 2 * k.0 + 1) { next } else { 0 };
+    let own = if sets::has(ranks, 2 * k.0 + 1) {
+        next
+    } else {
+        0
+    };
     mask ^ (view | own)
 }
 
@@ -126,7 +130,10 @@ pub fn adds_own(
     let mut all = 0u64;
     let mut k: usize = 0;
     while k < n {
-        all = sets::union(all, apart(fresh[k], views[base + k], keys[k], ranks, state::Key(k)));
+        all = sets::union(
+            all,
+            apart(fresh[k], views[base + k], keys[k], ranks, state::Key(k)),
+        );
         k = k + 1;
     }
     all == 0
