@@ -1,7 +1,7 @@
 -- `operations::append` meets its contract. The keys passed have their new versions, the others are as before, and the set is that of the keys passed. Assumes nothing.
 use borrow.Author.Needs.{needs}
 use Prim.Native.Nat.{ℕ, _+_, _/_, _≤_}
-use mathlib.Core.Path.{_≡_, ap}
+use mathlib.Core.Path.{ap}
 use native.Mathlib.Omega.{arith}
 use Rattle.store.specs.Store.{Store, Commit}
 use Rattle.state.specs.Room.{VersionsRoom, KeysRoom}

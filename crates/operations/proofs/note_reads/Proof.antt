@@ -1,7 +1,7 @@
 -- `operations::note_reads` meets its contract. The keys passed have their reads noted, the others are as before, and the sets are those of the keys passed. Assumes nothing.
 use borrow.Author.Needs.{needs}
 use Prim.Native.Nat.{ℕ, _+_, _/_, _≤_}
-use mathlib.Core.Path.{_≡_, ap, _∙_}
+use mathlib.Core.Path.{ap, _∙_}
 use mathlib.Core.List.{List}
 use native.Mathlib.Omega.{arith}
 use Rattle.store.specs.Store.{View, Store, Commit}
