@@ -1,4 +1,3 @@
-pub mod Gathering
 pub mod TableOfLevels
 pub mod FirstFailing
 pub mod OnSets

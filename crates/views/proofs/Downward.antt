@@ -2,7 +2,6 @@
 use Prim.Native.Nat.{ℕ, _+_, _-_, _%_, _^_, _≤_, _<_}
 use mathlib.Core.Path.{_≡_, refl, sym, ap, _∙_, subst}
 use mathlib.Core.Bool.{true, false, _||_}
-use mathlib.Core.Logic.{_↔_}
 use mathlib.Core.Option.{none}
 use mathlib.Core.List.{List}
 use native.Mathlib.Omega.{arith}
@@ -14,7 +13,7 @@ use lib.Pow.{pow-pos}
 use lib.ListN.{getD}
 use Rattle.search.proofs.Tests.{stable, true-T, T-false, false-T, same-test, or-left, or-right}
 use Rattle.sets.specs.Set.{Set, has, single, below, union, without, highest, lowest, width}
-use Rattle.sets.proofs.Laws.{has-none, has-large, has-below, below-has, has-lowest, has-highest, highest-most, single-only, single-has}
+use Rattle.sets.proofs.Laws.{has-none, has-large, has-below, below-has, has-lowest, has-highest, highest-most, single-only}
 use Rattle.sets.proofs.Algebra.{has-union, both-is, subset-is, same-sets, empty-is}
 use Rattle.sets.proofs.Words.{and-pred}
 use Rattle.dependencies.specs.History.{Holds}
