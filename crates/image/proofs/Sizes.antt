@@ -13,7 +13,7 @@ use Rattle.endian.proofs.Laws.{length-leBytes, length-pieces}
 use Rattle.store.specs.Limits.{maxKeys, maxCommits, perKey, maxImage}
 use Rattle.store.specs.Store.{Key, CommitNumber, Version, Store, count, version}
 use Rattle.store.specs.Image.{versionBytes, commitBytes, keyBytes, imageBody, image}
-use Rattle.store.proofs.Sound.{SoundStore}
+use Rattle.store.specs.Sound.{SoundStore}
 use Rattle.state.specs.Keeps.{KeepsKeys}
 use Rattle.image.specs.Parts.{keysSize, wholeSize}
 

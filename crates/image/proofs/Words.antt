@@ -11,7 +11,7 @@ use Rattle.endian.proofs.Laws.{leBytes-add, leBytes-mod}
 use Rattle.store.specs.Limits.{maxCommits}
 use Rattle.store.specs.Store.{CommitNumber, Version, Store, count, version}
 use Rattle.store.specs.Image.{versionBytes, commitBytes, ClientsFit}
-use Rattle.store.proofs.Sound.{SoundStore}
+use Rattle.store.specs.Sound.{SoundStore}
 use Rattle.state.specs.Places.{packed, headPlace, readersPlace}
 use Rattle.state.specs.Keeps.{KeepsVersions, KeepsCommits}
 

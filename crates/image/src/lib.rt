@@ -9,7 +9,7 @@ ghost use Rattle.endian.specs.Endian.{putAt, pieces};
 ghost use Rattle.store.specs.Limits.{maxKeys, maxCommits, perKey, maxImage};
 ghost use Rattle.store.specs.Store.{Store, count};
 ghost use Rattle.store.specs.Image.{commitBytes, keyBytes, image, ClientsFit};
-ghost use Rattle.store.proofs.Sound.{SoundStore};
+ghost use Rattle.store.specs.Sound.{SoundStore};
 ghost use Rattle.state.specs.Room.{VersionsRoom, KeysRoom, CommitsRoom};
 ghost use Rattle.state.specs.Keeps.{KeepsVersions, KeepsKeys, KeepsCommits};
 ghost use Rattle.image.specs.Parts.{headBytes, keysSize, wholeSize};

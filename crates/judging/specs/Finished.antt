@@ -3,8 +3,8 @@ use Prim.Native.Nat.{ℕ}
 use mathlib.Core.Path.{_≡_}
 use mathlib.Core.List.{List}
 use lib.ListN.{length}
+use Rattle.store.specs.Sound.{SoundStore}
 use Rattle.store.specs.Image.{ClientsFit}
-use Rattle.store.proofs.Sound.{SoundStore}
 use Rattle.trace.specs.Result.{taken}
 use Rattle.trace.specs.Format.{Trace}
 use Rattle.answer.specs.Answer.{finalStore, accept, verdict}

@@ -14,9 +14,9 @@ use Rattle.store.specs.Limits.{maxKeys, maxClients}
 use Rattle.store.specs.Store.{Client, View, Store, Configuration, Commit, shift, commit}
 use Rattle.store.specs.Update.{atNumber, update, step, viewBefore, storeAfter}
 use Rattle.store.proofs.Updated.{at-same, at-other}
-use Rattle.store.proofs.Sound.{Sound}
-use Rattle.store.proofs.Links.{history, held}
-use Rattle.growth.proofs.Made.{Made}
+use Rattle.store.specs.Sound.{Sound}
+use Rattle.store.specs.History.{history, held}
+use Rattle.growth.specs.Made.{Made}
 use Rattle.growth.proofs.Views.{holds-kept}
 use Rattle.state.specs.Places.{viewPlace}
 use Rattle.state.specs.Keeps.{IsSet, RowIs, KeepsViews, KeepsMasks}

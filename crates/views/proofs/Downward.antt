@@ -20,9 +20,9 @@ use Rattle.sets.proofs.Words.{and-pred}
 use Rattle.dependencies.specs.History.{Holds}
 use Rattle.store.specs.Store.{Key, CommitNumber, View, Store, count, version}
 use Rattle.store.specs.Refusal.{halfHeld, wholeWriters}
-use Rattle.store.proofs.Updated.{Wrote}
+use Rattle.store.specs.History.{Wrote, history, held}
 use Rattle.store.proofs.Missing.{missing-none}
-use Rattle.store.proofs.Links.{history, held, holds-means}
+use Rattle.store.proofs.Links.{holds-means}
 use Rattle.growth.proofs.Ordered.{writes-once}
 use Rattle.state.specs.Places.{headPlace, writersPlace, writerIn}
 use Rattle.state.specs.Keeps.{IsSet}

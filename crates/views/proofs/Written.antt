@@ -10,7 +10,7 @@ use Rattle.sets.proofs.Laws.{has-below}
 use Rattle.store.specs.Store.{View, Store, Commit}
 use Rattle.store.specs.Update.{writes}
 use Rattle.store.specs.Missing.{missing}
-use Rattle.store.proofs.Sound.{SoundStore}
+use Rattle.store.specs.Sound.{SoundStore}
 use Rattle.state.specs.Keeps.{KeepsOperations}
 use Rattle.views.specs.Rules.{ofWritten}
 use Rattle.views.proofs.Codes.{writes-is}

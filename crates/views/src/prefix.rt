@@ -8,7 +8,7 @@ ghost use Prim.Native.Nat.{ℕ, _<_, _≤_};
 ghost use lib.ListN.{length};
 ghost use Rattle.dependencies.specs.History.{Holds};
 ghost use Rattle.store.specs.Store.{View, Store};
-ghost use Rattle.store.proofs.Links.{history, held};
+ghost use Rattle.store.specs.History.{history, held};
 ghost use Rattle.state.specs.Keeps.{IsSet};
 ghost use Rattle.views.specs.Viewed.{NewMasks};
 ghost use Rattle.views.specs.Prefix.{Downward, Prefixes, Lacks};

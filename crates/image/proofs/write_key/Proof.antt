@@ -12,7 +12,7 @@ use Rattle.endian.proofs.Put.{put-none}
 use Rattle.store.specs.Limits.{maxCommits}
 use Rattle.store.specs.Store.{Store, count, version}
 use Rattle.store.specs.Image.{versionBytes, keyBytes}
-use Rattle.store.proofs.Sound.{SoundStore}
+use Rattle.store.specs.Sound.{SoundStore}
 use Rattle.state.specs.Places.{headPlace, readersPlace}
 use Rattle.state.specs.Keeps.{KeepsVersions}
 use Rattle.image.proofs.Words.{version-kept}

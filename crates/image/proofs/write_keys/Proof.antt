@@ -12,7 +12,7 @@ use Rattle.endian.proofs.Put.{put-none}
 use Rattle.store.specs.Limits.{maxCommits}
 use Rattle.store.specs.Store.{Store, count}
 use Rattle.store.specs.Image.{keyBytes}
-use Rattle.store.proofs.Sound.{SoundStore}
+use Rattle.store.specs.Sound.{SoundStore}
 use Rattle.state.specs.Keeps.{KeepsVersions, KeepsKeys}
 use Rattle.image.specs.Parts.{keysSize}
 use Rattle.image.proofs.Sizes.{keysSize-suc, key-within, length-key, length-keys, full-count}
