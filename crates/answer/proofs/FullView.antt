@@ -8,7 +8,8 @@ use Rattle.sets.specs.Set.{has, below}
 use Rattle.sets.proofs.Laws.{has-large, has-below, below-has, below-word, has-highest, highest-most}
 use Rattle.store.specs.Store.{Key, View, Store, count, nextNumber}
 use Rattle.store.specs.Update.{newest}
-use Rattle.store.proofs.Sound.{IsView, SoundStore}
+use Rattle.store.specs.View.{IsView}
+use Rattle.store.specs.Sound.{SoundStore}
 use Rattle.answer.specs.Replay.{fullView}
 
 -- the view holds every version of the key

@@ -16,9 +16,10 @@ use Rattle.sets.specs.Set.{Set, has}
 use Rattle.store.specs.Limits.{maxKeys, maxClients}
 use Rattle.store.specs.Store.{Value, View, Store, Configuration, Access, read, write, Operation, Commit}
 use Rattle.store.specs.Update.{sameAccess, valueOf, viewBefore}
-use Rattle.store.proofs.Sound as Store
+use Rattle.store.specs.Sound as Store
+use Rattle.trace.specs.Format.{viewAt}
 use Rattle.trace.specs.Encode.{accessNumber}
-use Rattle.trace.proofs.WellFormed.{rank, Rise, FitsCommit}
+use Rattle.trace.specs.WellFormed.{rank, Rise, FitsCommit}
 use Rattle.trace.proofs.Fits.{commit-fits}
 use Rattle.state.specs.Keeps.{KeepsOperations}
 use Rattle.commits.specs.Codes.{EarlyGiven}
@@ -78,7 +79,7 @@ early-given g c clients n versions keys views seen sessions commits links values
         keys-are = r .keys-are;
         sound = r .sound .store;
         view = r .sound .views (c .client);
-        fits = subst (λ (k : ℕ). Store.FitsCommit k c) (sym (r .keys-are)) (commit-fits n clients c (r .fits));
+        fits = subst (λ (k : ℕ). Store.WithinKeys k c) (sym (r .keys-are)) (commit-fits n clients c (r .fits));
         room-left = r .room-left;
         in-versions = r .keeps .in-versions;
         row = λ k l. r .keeps .in-views .rows (c .client) b k (let e = r .keys-are in omega arith);

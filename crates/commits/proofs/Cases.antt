@@ -20,10 +20,14 @@ use Rattle.store.specs.Update.{update, step, viewBefore, storeAfter}
 use Rattle.store.specs.Missing.{Place}
 use Rattle.store.specs.Links.{stored}
 use Rattle.store.specs.Refusal.{Refusal, refuse, refuseKey, refusePlace, notAbove, oldNumber, wrongRead, badMask, halfHeld, stray, refusesEvent}
-use Rattle.store.proofs.Sound.{SoundStore, Sound, Appears, FitsView, view-of-grown-store}
+use Rattle.store.specs.Sound.{SoundStore, Sound}
+use Rattle.store.specs.History.{Appears, history, held}
+use Rattle.store.specs.View.{FitsView}
+use Rattle.store.proofs.Sound.{view-of-grown-store}
 use Rattle.store.proofs.Legal.{stored-is, appears-lt}
-use Rattle.store.proofs.Links.{history, held, appears-stored}
-use Rattle.growth.proofs.Made.{Made, keys-after, sound-after, number-after}
+use Rattle.store.proofs.Links.{appears-stored}
+use Rattle.growth.specs.Made.{Made}
+use Rattle.growth.proofs.Made.{keys-after, sound-after, number-after}
 use Rattle.growth.proofs.Ordered.{ordered-commit}
 use Rattle.growth.proofs.Views.{holds-kept}
 use Rattle.state.specs.Keeps.{IsSet, CommitOf, KeepsSessions, KeepsViews}

@@ -10,7 +10,7 @@ use Rattle.sets.specs.Set.{Set, single, union}
 use Rattle.store.specs.Limits.{maxKeys, maxClients}
 use Rattle.store.specs.Store.{Configuration, nextNumber, Commit, commit}
 use Rattle.store.specs.Update.{writes, step, viewBefore}
-use Rattle.growth.proofs.Made.{Writes}
+use Rattle.growth.specs.Made.{Writes}
 use Rattle.state.specs.Keeps.{IsSet, KeepsOperations, KeepsViews}
 use Rattle.state.specs.Accesses.{Left}
 use Rattle.state.proofs.Accesses.{left-none, left-some}

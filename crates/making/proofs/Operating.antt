@@ -11,7 +11,7 @@ use Rattle.search.proofs.Tests.{T-true, true-T, eq-test}
 use Rattle.sets.specs.Set.{Set, has, lowest}
 use Rattle.sets.proofs.Laws.{has-none, has-lowest}
 use Rattle.store.specs.Store.{Commit}
-use Rattle.growth.proofs.Made.{Operates}
+use Rattle.growth.specs.Made.{Operates}
 use Rattle.state.specs.Keeps.{KeepsOperations}
 use Rattle.state.proofs.Ranks.{reads-rank, writes-rank}
 

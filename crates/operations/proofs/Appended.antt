@@ -21,7 +21,7 @@ use Rattle.store.specs.Limits.{maxKeys, maxCommits}
 use Rattle.store.specs.Store.{Key, VersionNumber, CommitNumber, Value, Version, openingVersion, View, Store, count, version, nextNumber, read, write, Commit}
 use Rattle.store.specs.Update.{valueOf, writes, newest, append, update}
 use Rattle.store.proofs.Updated.{note-length, append-none}
-use Rattle.growth.proofs.Links.{FromWrite}
+use Rattle.growth.specs.Links.{FromWrite}
 use Rattle.state.specs.Places.{perKey, headPlace, readersPlace, fullPlace, writersPlace, packed}
 use Rattle.state.specs.Room.{VersionsRoom, KeysRoom}
 use Rattle.state.specs.Keeps.{IsSet, KeepsVersions, KeepsKeys}

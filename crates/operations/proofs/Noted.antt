@@ -14,7 +14,8 @@ use Rattle.sets.specs.Set.{Set, has, insert, below, highest, lowest}
 use Rattle.store.specs.Limits.{maxKeys}
 use Rattle.store.specs.Store.{Key, VersionNumber, CommitNumber, Value, Version, openingVersion, View, Store, count, version, read, Commit}
 use Rattle.store.specs.Update.{valueOf, newest, readBy, noteRead}
-use Rattle.store.proofs.Updated.{Wrote, note-length, note-writer}
+use Rattle.store.specs.History.{Wrote}
+use Rattle.store.proofs.Updated.{note-length, note-writer}
 use Rattle.state.specs.Places.{perKey, headPlace, readersPlace, writerIn}
 use Rattle.state.specs.Room.{VersionsRoom}
 use Rattle.state.specs.Keeps.{KeepsVersions, KeepsKeys}

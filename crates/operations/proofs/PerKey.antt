@@ -13,9 +13,9 @@ use Rattle.sets.specs.Set.{Set, has, single, below, union, without, lowest}
 use Rattle.sets.proofs.Laws.{has-below, below-has}
 use Rattle.store.specs.Store.{Key, View, Store, version, Commit}
 use Rattle.store.specs.Update.{reads, writes, newest}
-use Rattle.store.proofs.Updated.{Wrote}
-use Rattle.growth.proofs.Ordered.{Ordered}
-use Rattle.growth.proofs.Links.{FromRead, ToLater}
+use Rattle.store.specs.History.{Wrote}
+use Rattle.growth.specs.Ordered.{Ordered}
+use Rattle.growth.specs.Links.{FromRead, ToLater}
 use Rattle.state.specs.Places.{writersPlace}
 use Rattle.state.specs.Keeps.{IsSet, KeepsKeys, WroteKey}
 use Rattle.state.specs.Accesses.{Left}

@@ -14,7 +14,7 @@ use Rattle.search.proofs.Tests.{true-T, T-true, and-is, same}
 use Rattle.search.proofs.Search.{least-found, least-none}
 use Rattle.sets.specs.Set.{has, highest}
 use Rattle.sets.proofs.Laws.{has-large, has-highest}
-use Rattle.store.specs.Limits.{numbers}
+use Rattle.store.specs.Limits.{maxCommits, numbers}
 use Rattle.store.specs.Store.{Key, Value, Version, View, Store, count, version, nextNumber, Commit}
 use Rattle.store.specs.Update.{reads, newest}
 use Rattle.store.specs.Refusal.{differs, wrongAt, wrongRead}
@@ -50,7 +50,7 @@ module _ {s : Store} {u : View} {c : Commit} {versions views : List ℕ} {base :
   writer-packed k {i} {h} l e =
       let w : h / 2 ^ 32 ≡ version s k i .writer = rw e (high-half _ _ (g .in-versions .value-fits k i l)) in
       let b : version s k i .writer < nextNumber s = g .sound .writers _ k i (l, refl) in
-      let m : nextNumber s ≤ 63 = g .room-left in
+      let m : nextNumber s ≤ maxCommits = g .room-left in
       omega arith
 
   module _ (k : Key) (l : k < n) where

@@ -8,8 +8,8 @@ ghost use Prim.Native.Nat.{_<_};
 ghost use Rattle.store.specs.Limits.{maxClients, numbers};
 ghost use Rattle.store.specs.Store.{Store, View, Commit, nextNumber};
 ghost use Rattle.store.specs.Update.{update};
-ghost use Rattle.growth.proofs.Made.{Made, Operates};
-ghost use Rattle.growth.proofs.Links.{FromRead};
+ghost use Rattle.growth.specs.Made.{Made, Operates};
+ghost use Rattle.growth.specs.Links.{FromRead};
 ghost use Rattle.state.specs.Room.{SessionsRoom, CommitsRoom};
 ghost use Rattle.state.specs.Keeps.{IsSet, KeepsSessions, KeepsCommits};
 

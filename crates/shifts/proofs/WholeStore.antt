@@ -8,7 +8,7 @@ use Rattle.store.specs.Limits.{maxKeys, maxClients}
 use Rattle.store.specs.Store.{View, Configuration, shift}
 use Rattle.store.specs.Update.{step}
 use Rattle.store.specs.Refusal.{refusesEvent}
-use Rattle.store.proofs.Sound.{FitsView}
+use Rattle.store.specs.View.{FitsView}
 use Rattle.store.proofs.Legal.{legal-shift}
 use Rattle.state.specs.Keeps.{IsSet, KeepsMasks, KeepsViews}
 use Rattle.views.specs.Rows.{Kept}

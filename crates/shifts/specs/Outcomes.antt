@@ -7,9 +7,10 @@ use Rattle.dependencies.specs.History as D
 use Rattle.store.specs.Limits.{maxCommits}
 use Rattle.store.specs.Store.{View, Store, Configuration}
 use Rattle.store.specs.Refusal.{Refusal, badMask, halfHeld}
-use Rattle.store.proofs.Sound.{Sound, FitsView}
-use Rattle.store.proofs.Links.{history, held}
-use Rattle.growth.proofs.Ordered.{Ordered}
+use Rattle.store.specs.View.{IsView, FitsView}
+use Rattle.store.specs.Sound.{Sound}
+use Rattle.store.specs.History.{history, held}
+use Rattle.growth.specs.Ordered.{Ordered}
 use Rattle.state.specs.Keeps.{IsSet, KeepsVersions, KeepsKeys, KeepsViews}
 use Rattle.shifts.specs.declared.Outcome.{Outcome}
 use Rattle.shifts.specs.declared.Outcome.the-variants.{Taken, Refused}

@@ -12,13 +12,13 @@ use Rattle.relations.specs.Relation.{Plus}
 use Rattle.dependencies.specs.History.{SO, Holds}
 use Rattle.store.specs.Store.{Key, CommitNumber, View, Store, Commit}
 use Rattle.store.specs.Update.{writes}
-use Rattle.store.proofs.Sound.{SoundStore}
-use Rattle.store.proofs.Links.{history, held}
-use Rattle.growth.proofs.Made.{Writer}
-use Rattle.growth.proofs.Links.{FromWrite}
-use Rattle.growth.proofs.Sessions.{ReadUpTo}
-use Rattle.growth.proofs.Views.{Lacking}
-use Rattle.growth.proofs.Clauses.{LeadsToHeld}
+use Rattle.store.specs.Sound.{SoundStore}
+use Rattle.store.specs.History.{history, held}
+use Rattle.growth.specs.Made.{Writer}
+use Rattle.growth.specs.Links.{FromWrite}
+use Rattle.growth.specs.Sessions.{ReadUpTo}
+use Rattle.growth.specs.Views.{Lacking}
+use Rattle.growth.specs.Clauses.{LeadsToHeld}
 use Rattle.state.specs.Places.{numbers, beforePlace, readPlace}
 use Rattle.state.specs.Rows.{InRows}
 use Rattle.state.specs.Keeps.{IsSet, KeepsKeys, KeepsCommits, KeepsOperations, Step}
@@ -27,7 +27,7 @@ use Rattle.state.proofs.Ranks.{writes-rank}
 use Rattle.paths.specs.Path.{LeadsInto}
 use Rattle.views.specs.Gained.{WriterBelow}
 use Rattle.verdicts.specs.Sources.{InKeys}
-use Rattle.verdicts.specs.Wants.{Lacks, Wants}
+use Rattle.verdicts.specs.Wants.{LacksSome, Wants}
 
 -- a key is written where its rank is in the set
 pub writes-ranked : {c : Commit} {ranks : Set} {values : List ℕ} → KeepsOperations c ranks values → (k : Key) → T (writes c k) ↔ T (has ranks (2 * k + 1))
@@ -85,5 +85,5 @@ wants-nothing s u c lacking h e = record {
     zero : IsSet 0 (Lacking s u)
     zero = subst (λ (m : Set). IsSet m (Lacking s u)) e h
 
-    none : Lacks s u → ⊥
+    none : LacksSome s u → ⊥
     none (a, x) = has-none a (zero a .1 x)

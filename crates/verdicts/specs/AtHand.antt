@@ -9,8 +9,9 @@ use Rattle.dependencies.specs.History.{Holds}
 use Rattle.store.specs.Limits.{maxCommits}
 use Rattle.store.specs.Store.{View, Store, Commit}
 use Rattle.store.specs.Update.{update}
-use Rattle.store.proofs.Sound.{IsView, SoundStore}
-use Rattle.store.proofs.Links.{history, held}
+use Rattle.store.specs.View.{IsView}
+use Rattle.store.specs.Sound.{SoundStore}
+use Rattle.store.specs.History.{history, held}
 use Rattle.levels.specs.Clause.{monotonicReads, readYourWrites, missingBy}
 use Rattle.state.specs.declared.Found.{Found}
 use Rattle.state.specs.Keeps.{IsSet, KeepsCommits, KeepsLinks, KeepsMasks, KeepsOperations}

@@ -21,7 +21,7 @@ use Rattle.sets.proofs.Algebra.{same-sets, single-word}
 use Rattle.store.specs.Limits.{maxCommits}
 use Rattle.store.specs.Store.{Key, View, Store, count, Commit}
 use Rattle.store.specs.Update.{writes}
-use Rattle.growth.proofs.Made.{Made}
+use Rattle.growth.specs.Made.{Made}
 use Rattle.state.specs.Keeps.{IsSet, KeepsKeys, KeepsMasks, KeepsOperations}
 use Rattle.state.proofs.Sets.{isSet-as, isSet-none, isSet-single, isSet-union}
 use Rattle.state.specs.Rows.{RowAt}

@@ -18,10 +18,10 @@ use Rattle.sets.proofs.Algebra.{has-union, both-is, subset-is, same-sets, empty
 use Rattle.sets.proofs.Words.{and-pred}
 use Rattle.dependencies.specs.History.{Holds}
 use Rattle.store.specs.Store.{Key, CommitNumber, View, Store, count, version}
-use Rattle.store.specs.Refusal.{badMask, halfHeld, wholeWriters}
-use Rattle.store.proofs.Updated.{Wrote}
+use Rattle.store.specs.Refusal.{halfHeld, wholeWriters, badMask}
+use Rattle.store.specs.History.{Wrote, history, held}
 use Rattle.store.proofs.Missing.{missing-none}
-use Rattle.store.proofs.Links.{history, held, holds-means}
+use Rattle.store.proofs.Links.{holds-means}
 use Rattle.growth.proofs.Ordered.{writes-once}
 use Rattle.state.specs.Places.{headPlace, writersPlace, writerIn}
 use Rattle.state.specs.Keeps.{IsSet}

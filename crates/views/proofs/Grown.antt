@@ -17,11 +17,11 @@ use Rattle.sets.proofs.Algebra.{both-is, without-is}
 use Rattle.dependencies.specs.History.{Holds}
 use Rattle.store.specs.Store.{Key, CommitNumber, View, Store, count, version}
 use Rattle.store.specs.Missing.{missing}
-use Rattle.store.specs.Refusal.{badMask, halfHeld, wholeWriters, allOf}
-use Rattle.store.proofs.Updated.{Wrote}
-use Rattle.store.proofs.Sound.{SoundStore}
+use Rattle.store.specs.Refusal.{halfHeld, wholeWriters, allOf, badMask}
+use Rattle.store.specs.History.{Wrote, history, held}
+use Rattle.store.specs.Sound.{SoundStore}
 use Rattle.store.proofs.Missing.{missing-none}
-use Rattle.store.proofs.Links.{history, held, holds-means}
+use Rattle.store.proofs.Links.{holds-means}
 use Rattle.growth.proofs.Ordered.{writes-once}
 use Rattle.growth.proofs.Views.{GainedOf, holds-gained}
 use Rattle.state.specs.Keeps.{IsSet}

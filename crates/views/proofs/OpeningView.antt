@@ -14,11 +14,12 @@ use Rattle.sets.proofs.Laws.{has-none, has-lt}
 use Rattle.dependencies.specs.History.{Holds}
 use Rattle.store.specs.Limits.{maxKeys}
 use Rattle.store.specs.Store.{View, Store, count, version}
+use Rattle.store.specs.History.{Wrote, history, held}
+use Rattle.store.specs.View.{IsView}
+use Rattle.store.specs.Sound.{SoundStore}
+use Rattle.growth.specs.Ordered.{Ordered}
+use Rattle.growth.proofs.Ordered.{opening-wrote-first}
 use Rattle.store.specs.Refusal.{badMask}
-use Rattle.store.proofs.Updated.{Wrote}
-use Rattle.store.proofs.Sound.{IsView, SoundStore}
-use Rattle.store.proofs.Links.{history, held}
-use Rattle.growth.proofs.Ordered.{Ordered, opening-wrote-first}
 use Rattle.state.specs.Keeps.{IsSet}
 use Rattle.views.specs.Viewed.{NewMasks}
 use Rattle.views.proofs.Tests.{has-as}

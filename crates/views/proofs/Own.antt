@@ -15,8 +15,9 @@ use Rattle.store.specs.Store.{Key, View, Store, count, version, nextNumber, Com
 use Rattle.store.specs.Update.{writes, update}
 use Rattle.store.specs.Missing.{missing}
 use Rattle.store.specs.Links.{wrote}
-use Rattle.store.proofs.Updated.{Wrote, wrote-update, wrote-new}
-use Rattle.store.proofs.Sound.{SoundStore}
+use Rattle.store.specs.History.{Wrote}
+use Rattle.store.proofs.Updated.{wrote-update, wrote-new}
+use Rattle.store.specs.Sound.{SoundStore}
 use Rattle.store.proofs.Missing.{MetAt, missing-none, missing-found}
 use Rattle.views.proofs.Tests.{has-as}
 

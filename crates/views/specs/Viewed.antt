@@ -7,9 +7,9 @@ use Rattle.sets.specs.Set.{Set}
 use Rattle.dependencies.specs.History as D
 use Rattle.store.specs.Store.{View, Store}
 use Rattle.store.specs.Refusal.{halfHeld}
-use Rattle.store.proofs.Sound.{IsView, FitsView}
-use Rattle.store.proofs.Links.{history, held}
-use Rattle.growth.proofs.Ordered.{Ordered}
+use Rattle.store.specs.View.{IsView, FitsView}
+use Rattle.store.specs.History.{history, held}
+use Rattle.growth.specs.Ordered.{Ordered}
 use Rattle.state.specs.Keeps.{IsSet, KeepsMasks}
 use Rattle.views.specs.Rules.{StoreAndView}
 use Rattle.views.specs.declared.Viewed.{Viewed}

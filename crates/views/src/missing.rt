@@ -9,7 +9,7 @@ ghost use Rattle.store.specs.Store.{View, Store, nextNumber, Commit};
 ghost use Rattle.store.specs.Update.{update};
 ghost use Rattle.store.specs.Links.{wrote};
 ghost use Rattle.store.specs.Missing.{missing};
-ghost use Rattle.store.proofs.Sound.{SoundStore};
+ghost use Rattle.store.specs.Sound.{SoundStore};
 ghost use Rattle.state.specs.Room.{VersionsRoom, KeysRoom, FreshRoom};
 ghost use Rattle.state.specs.Keeps.{KeepsKeys, KeepsMasks, KeepsOperations};
 ghost use Rattle.state.specs.Answers.{placeOf};

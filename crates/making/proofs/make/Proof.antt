@@ -2,7 +2,7 @@
 use Prim.Native.Nat.{ℕ}
 use mathlib.Core.Path.{sym, subst}
 use borrow.Author.Needs.{needs}
-use Rattle.growth.proofs.Links.{FromSession}
+use Rattle.growth.specs.Links.{FromSession}
 use Rattle.state.specs.Keeps.{IsSet}
 use Rattle.making.proofs.Operating.{operates-is}
 use Rattle.making.proofs.LedBy.{as-given, led-before}

@@ -5,7 +5,7 @@ use mathlib.Core.Path.{ap, _∙_}
 use mathlib.Core.List.{List}
 use native.Mathlib.Omega.{arith}
 use Rattle.store.specs.Store.{View, Store, Commit}
-use Rattle.growth.proofs.Ordered.{Ordered}
+use Rattle.growth.specs.Ordered.{Ordered}
 use Rattle.state.specs.Room.{VersionsRoom}
 use Rattle.state.specs.Keeps.{IsSet, KeepsKeys}
 use Rattle.state.specs.Accesses.{Left}

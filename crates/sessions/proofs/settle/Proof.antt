@@ -8,8 +8,8 @@ use mathlib.Core.Logic.{_↔_}
 use mathlib.Core.List.{[]}
 use lib.ListN.{length-set}
 use Rattle.store.specs.Store.{Commit}
+use Rattle.growth.specs.Made.{Operates}
 use Rattle.store.specs.Limits.{maxClients, numbers}
-use Rattle.growth.proofs.Made.{Operates}
 use Rattle.sessions.proofs.Settled.{idle-sessions, sessions-settled, commits-settled, commits-idle}
 use Rattle.sessions.proofs.settle.Statement.{statement}
 use Rattle.sessions.proofs.settle.Tie as tie

@@ -9,7 +9,7 @@ use borrow.Author.Count.{below-more}
 use Rattle.sets.specs.Set.{has}
 use Rattle.store.specs.Limits.{maxCommits}
 use Rattle.store.specs.Store.{View, Store, Commit}
-use Rattle.store.proofs.Sound.{SoundStore}
+use Rattle.store.specs.Sound.{SoundStore}
 use Rattle.state.specs.Keeps.{KeepsKeys, KeepsMasks, KeepsOperations}
 use Rattle.views.proofs.Tests.{taken, left as not-so, not-taken, not-left}
 use Rattle.state.proofs.Ranks.{writes-rank}
