@@ -22,7 +22,7 @@ same-length-3 c = search needs
 
 returns : tie.Need-returns
 returns c = (
-  λ g i h. c .before .before .before .before .shift-on .ensures .0 g _ i h (masks-read _ _ _ _ (omega arith) (c .before .before .before .before .before .before .before .before .before .before .masks-into .ensures .0)),
+  λ g h. c .before .before .before .before .shift-on .ensures .0 g _ h (masks-read _ _ _ _ (omega arith) (c .before .before .before .before .before .before .before .before .before .before .masks-into .ensures .0)),
   λ g h. c .before .before .before .before .shift-on .ensures .1 g _ h (masks-read _ _ _ _ (omega arith) (c .before .before .before .before .before .before .before .before .before .before .masks-into .ensures .0)),
 )
 
