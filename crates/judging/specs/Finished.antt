@@ -4,11 +4,11 @@ use mathlib.Core.Path.{_≡_}
 use mathlib.Core.List.{List}
 use lib.ListN.{length}
 use Rattle.store.specs.Sound.{SoundStore}
+use Rattle.store.specs.Image.{ClientsFit}
 use Rattle.trace.specs.Result.{taken}
 use Rattle.trace.specs.Format.{Trace}
 use Rattle.answer.specs.Answer.{finalStore, accept, verdict}
 use Rattle.state.specs.Keeps.{KeepsVersions, KeepsKeys, KeepsCommits}
-use Rattle.image.specs.Parts.{ClientsFit}
 use Rattle.verdicts.specs.Verdicts.{KeepsVerdicts}
 
 -- the bytes are taken as trace t of so many records, and the arrays keep its last store, of n keys and `count` commits, and its verdicts

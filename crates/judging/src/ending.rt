@@ -9,13 +9,13 @@ ghost use mathlib.Core.List.{List};
 ghost use Prim.Native.Nat.{ℕ, _*_, _≤_};
 ghost use lib.ListN.{length};
 ghost use Rattle.endian.specs.Endian.{putAt};
-ghost use Rattle.store.specs.Limits.{maxKeys, maxCommits};
+ghost use Rattle.store.specs.Limits.{maxKeys, maxCommits, maxImage};
 ghost use Rattle.store.specs.Image.{image};
 ghost use Rattle.trace.specs.Result.{taken};
 ghost use Rattle.trace.specs.Format.{Trace};
 ghost use Rattle.answer.specs.Answer.{finalStore, report, imageAfter};
 ghost use Rattle.state.specs.Places.{perKey, numbers};
-ghost use Rattle.image.specs.Parts.{mostBytes, wholeSize};
+ghost use Rattle.image.specs.Parts.{wholeSize};
 ghost use Rattle.judging.specs.Answers.{judgedOf, answerOf, toldAnswer};
 ghost use Rattle.judging.specs.Finished.{Finished};
 
@@ -32,7 +32,7 @@ fn conclude(
     whole: usize,
 ) -> Answer
     requires { ⌜ (length (now versions) ≡ 2 * (perKey * maxKeys)) × (length (now keys) ≡ 2 * maxKeys) × (length (now commits) ≡ 3 * numbers) × (length (now verdicts) ≡ 40) ⌝ }
-    requires { ⌜ (n ≤ maxKeys) × (count ≤ maxCommits) × (whole ≡ wholeSize (now keys) n count) × (whole ≤ mostBytes) × (whole ≤ length (now buffer)) ⌝ }
+    requires { ⌜ (n ≤ maxKeys) × (count ≤ maxCommits) × (whole ≡ wholeSize (now keys) n count) × (whole ≤ maxImage) × (whole ≤ length (now buffer)) ⌝ }
     ensures { λ r. ⌜ ((bytes : List ℕ) (t : Trace)
         → Finished bytes t (now (versions .entry)) (now (keys .entry)) (now (commits .entry)) (now (verdicts .entry)) n count records
         → whole ≡ length (image (finalStore t))

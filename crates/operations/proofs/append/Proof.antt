@@ -1,10 +1,10 @@
 -- `operations::append` meets its contract. The keys passed have their new versions, the others are as before, and the set is that of the keys passed. Assumes nothing.
 use borrow.Author.Needs.{needs}
 use Prim.Native.Nat.{ℕ, _+_, _/_, _≤_}
-use mathlib.Core.Path.{_≡_, ap}
+use mathlib.Core.Path.{ap}
 use native.Mathlib.Omega.{arith}
-use lib.ListN.{length}
 use Rattle.store.specs.Store.{Store, Commit}
+use Rattle.state.specs.Room.{VersionsRoom, KeysRoom}
 use Rattle.state.specs.Keeps.{IsSet}
 use Rattle.state.specs.Accesses.{Left}
 use Rattle.state.proofs.Accesses.{left-rest, turn-below}
@@ -17,8 +17,8 @@ use Rattle.operations.proofs.append.Tie as tie
 
 abbrev Inv-loop : tie.InvT-loop
 Inv-loop versions₀ keys₀ values ranks n me earlier₀ left₀ versions keys earlier left =
-    (k : ℕ) × (k ≤ n) × Left ranks 1 n k left × (length versions ≡ 2048) × (length keys ≡ 32)
-    × ((s : Store) (c : Commit) → Appending s c versions₀ keys₀ values ranks n → WritesPassed s c me n k versions keys × IsSet earlier (From (writtenAt s c) k))
+    (k : ℕ) × (k ≤ n) × Left ranks 1 n k left × VersionsRoom versions × KeysRoom keys
+    × ((s : Store) (c : Commit) → Appending s c versions₀ keys₀ values ranks n → WritesPassed s c (me .0) n k versions keys × IsSet earlier (From (writtenAt s c) k))
 
 abbrev μ-loop : tie.MeasureT-loop
 μ-loop versions₀ keys₀ values ranks n me earlier₀ left₀ versions keys earlier left = left

@@ -1,12 +1,12 @@
 -- `operations::note_reads` meets its contract. The keys passed have their reads noted, the others are as before, and the sets are those of the keys passed. Assumes nothing.
 use borrow.Author.Needs.{needs}
 use Prim.Native.Nat.{ℕ, _+_, _/_, _≤_}
-use mathlib.Core.Path.{_≡_, ap, _∙_}
+use mathlib.Core.Path.{ap, _∙_}
 use mathlib.Core.List.{List}
 use native.Mathlib.Omega.{arith}
-use lib.ListN.{length}
 use Rattle.store.specs.Store.{View, Store, Commit}
 use Rattle.growth.specs.Ordered.{Ordered}
+use Rattle.state.specs.Room.{VersionsRoom}
 use Rattle.state.specs.Keeps.{IsSet, KeepsKeys}
 use Rattle.state.specs.Accesses.{Left}
 use Rattle.state.proofs.Accesses.{next-key, left-rest, turn-below}
@@ -20,9 +20,9 @@ use Rattle.operations.proofs.note_reads.Tie as tie
 
 abbrev Inv-loop : tie.InvT-loop
 Inv-loop versions₀ keys views base ranks n me from₀ over₀ left₀ versions from over left =
-    (k : ℕ) × (k ≤ n) × Left ranks 0 n k left × (length versions ≡ 2048)
+    (k : ℕ) × (k ≤ n) × Left ranks 0 n k left × VersionsRoom versions
     × ((s : Store) (u : View) (c : Commit) (values : List ℕ) → Given s u c versions₀ views base values ranks n
-    → ReadsPassed s u c me n k versions
+    → ReadsPassed s u c (me .0) n k versions
     × (KeepsKeys s keys → Ordered s → IsSet from (From (readAt s u c) k) × IsSet over (From (laterAt s u c) k)))
 
 abbrev μ-loop : tie.MeasureT-loop
