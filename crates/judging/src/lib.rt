@@ -1,8 +1,8 @@
 // The call that judges a trace file: it is lent the file in one slice and an image buffer in another, and gives one answer.
-pub mod ending; // ending.rt: the answer for a trace that was run to its end
-pub mod plain; // plain.rt: an answer as words
-pub mod told; // told.rt: the verdicts, from the words in which they are kept
-pub mod whole; // whole.rt: the answer for a file in form
+mod ending; // ending.rt: the answer for a trace that was run to its end
+mod plain; // plain.rt: an answer as words
+mod told; // told.rt: the verdicts, from the words in which they are kept
+mod whole; // whole.rt: the answer for a file in form
 
 use state::Key;
 use state::VersionNumber;

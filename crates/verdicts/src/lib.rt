@@ -1,10 +1,10 @@
 // The verdicts on a commit: which of the eight clauses fail it, and the first failure of each level. A commit is judged before anything of it is
 // applied, so all arrays keep the store before it; `fresh` has the masks of its view after. The arrays are described in crates/state/specs.
-pub mod clauses;
-pub mod missing;
+mod clauses;
+mod missing;
 pub mod report;
-pub mod sources;
-pub mod table;
+mod sources;
+mod table;
 
 // The commits of which the view holds nothing, and where there are any the commits that the clauses want: those before what the view holds in SO
 // (clause 3), those from which it was read (4), the writers of the keys written (5), and those that lead to it (6 and 7).

@@ -3,7 +3,7 @@
 pub mod held;
 pub mod masks;
 pub mod missing;
-pub mod prefix;
+mod prefix;
 
 // Places of crates/state/specs/Places.antt: the versions of a key, the readers after the heads, the sets of writers after the full masks.
 const PER_KEY: usize = 64;
