@@ -1,6 +1,6 @@
 -- A file in form: its records start on the opening arrays, and where they were run to their end the trace is finished. Assumes nothing.
 use Prim.Native.Nat.{ℕ, _+_, _*_, _^_, _≤_, _<_, zero-le}
-use mathlib.Core.Path.{_≡_, sym, subst}
+use mathlib.Core.Path.{_≡_, sym, _∙_, subst}
 use mathlib.Core.Option.{some, none}
 use mathlib.Core.List.{List}
 use native.Mathlib.Omega.{arith}
@@ -14,13 +14,13 @@ use Rattle.store.specs.Update.{firstAlong}
 use Rattle.store.specs.Refusal.{refuse, refusesEvent}
 use Rattle.store.proofs.Run.{final-commits}
 use Rattle.trace.specs.Result.{refused}
-use Rattle.trace.specs.Format.{Trace}
+use Rattle.trace.specs.Format.{Trace, traceOf}
 use Rattle.trace.specs.Meaning.{headerOf, WholeFile, FormSays}
 use Rattle.trace.specs.declared.form.Header.{Header}
 use Rattle.trace.specs.declared.form.Form.{Form}
 use Rattle.trace.specs.declared.form.Form.the-variants.{Whole, Misshapen}
-use Rattle.trace.proofs.Sizes.{length-encode}
-use Rattle.trace.proofs.Decoded.{IfTaken, EventsRead, events-read, decoded-well-formed, decoded-length}
+use Rattle.trace.proofs.Decoded.{IfTaken, EntriesRead, entries-read, decoded-length}
+use Rattle.trace.proofs.Entries.{length-eventsOf}
 use Rattle.levels.specs.Level.{firstFailure}
 use Rattle.state.specs.Places.{perKey, numbers}
 use Rattle.state.proofs.Opening.{filled, keeps-opening}
@@ -34,16 +34,12 @@ use Rattle.judging.specs.Finished.{Finished}
 use Rattle.judging.proofs.Answered.{Answers, misshapen-answer, accepted}
 
 -- the trace of a file in form
-abbrev pub traceOf : {s : List ℕ} {h : Header} → WholeFile s h → Trace
-traceOf {s} {h} w = record { keys = h .keys; clients = h .clients; events = w .events }
+abbrev pub traceIn : {s : List ℕ} {h : Header} → WholeFile s h → Trace
+traceIn {s} {h} w = traceOf (headerOf h) (w .entries)
 
 -- a file in form is neither too short nor too long
 pub whole-length : {s : List ℕ} → Bytes s → {h : Header} → WholeFile s h → (minBytes ≤ length s) × (length s ≤ maxBytes)
-whole-length {s} b {h} w =
-    let short = decoded-well-formed s b (traceOf w) (w .decoded) .short in
-    let same = decoded-length s b (traceOf w) (w .decoded) in
-    let size = length-encode (traceOf w) in
-    (omega arith, omega arith)
+whole-length {s} b {h} w = decoded-length s b (traceIn w) (w .decoded)
 
 -- ---- at the start
 
@@ -68,7 +64,7 @@ pub starts : {s : List ℕ} {h : Header} (w : WholeFile s h) {versions keys view
     → versions ≡ filled (2 * (perKey * maxKeys)) 0 → keys ≡ filled (2 * maxKeys) 1 → views ≡ filled (maxClients * maxKeys) 1 → seen ≡ filled maxClients 1
     → sessions ≡ filled (3 * maxClients) 0 → commits ≡ filled (3 * numbers) 0 → links ≡ filled (2 * numbers + 2 * maxKeys) 0
     → verdicts ≡ filled 40 0 → values ≡ filled 32 0
-    → Starts s (h .keys) (h .clients) (h .records) (w .events) versions keys views seen sessions commits links verdicts values
+    → Starts s (h .keys) (h .clients) (h .records) (w .entries) versions keys views seen sessions commits links verdicts values
 starts {s} {h} w e0 e1 e2 e3 e4 e5 e6 e7 e8 =
     rw (e0, e1, e2, e3, e4, e5, e6, e7, e8) (record {
       some-key = w .some-key;
@@ -84,26 +80,26 @@ starts {s} {h} w e0 e1 e2 e3 e4 e5 e6 e7 e8 =
 -- ---- at the end
 
 -- what was read of the records
-records-read : {s : List ℕ} → Bytes s → {h : Header} (w : WholeFile s h) → EventsRead s (headerOf h) (h .records) minBytes 0 (w .events)
-records-read {s} b {h} w = subst (IfTaken (EventsRead s (headerOf h) (h .records) minBytes 0)) (w .read) (events-read s b (headerOf h) (h .records) minBytes 1 0 zero-le)
+records-read : {s : List ℕ} → Bytes s → {h : Header} (w : WholeFile s h) → EntriesRead (headerOf h) (h .records) 0 (w .entries)
+records-read {s} b {h} w = subst (IfTaken (EntriesRead (headerOf h) (h .records) 0)) (w .read) (entries-read s b (headerOf h) (h .records) minBytes 1 0 zero-le)
 
 module _ {s : List ℕ} (b : Bytes s) {h : Header} (w : WholeFile s h) {count : ℕ} {versions keys views seen sessions commits links verdicts : List ℕ}
-    (e : Ended (h .keys) (w .events) count versions keys views seen sessions commits links verdicts) where
+    (e : Ended (h .keys) (traceIn w .events) count versions keys views seen sessions commits links verdicts) where
   -- the commits that were made are few
   pub few-made : count ≤ maxCommits
   unfolding opening openingStore
   few-made =
-      let r = records-read b w .few-commits in
-      let f = final-commits (opening (h .keys)) (w .events) in
+      let r = records-read b w .few-commits (opening (h .keys)) in
+      let f = final-commits (opening (h .keys)) (traceIn w .events) in
       let c = e .counted in
       omega arith
 
   -- the arrays keep the last store of the trace, and its verdicts
-  pub finished : Finished s (traceOf w) versions keys commits verdicts (h .keys) count (h .records)
+  pub finished : Finished s (traceIn w) versions keys commits verdicts (h .keys) count (h .records)
   unfolding firstFailure
   finished = record {
-    accepted = accepted s (traceOf w) (w .decoded) (e .none-refused);
-    all-records = records-read b w .counted;
+    accepted = accepted s (traceIn w) (w .decoded) (e .none-refused);
+    all-records = length-eventsOf (opening (h .keys)) (w .entries) ∙ records-read b w .counted;
     in-versions = e .keeps .in-versions;
     in-keys = e .keeps .in-keys;
     in-commits = e .keeps .in-commits;

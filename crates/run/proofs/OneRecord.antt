@@ -7,14 +7,16 @@ use native.Mathlib.Omega.{arith}
 use Rattle.search.specs.Choose.{orElse}
 use Rattle.endian.specs.Endian.{Bytes}
 use Rattle.store.specs.Limits.{maxClients, maxCommits}
-use Rattle.store.specs.Store.{Configuration, nextNumber, Commit, Event, shift, commit}
+use Rattle.store.specs.Store.{Configuration, opening, nextNumber, Commit, Event, shift, commit}
 use Rattle.store.specs.Update.{update, step}
 use Rattle.store.specs.Refusal.{refusesEvent}
+use Rattle.trace.specs.Entry.{Entry, committing, every, listedOr, over, event}
 use Rattle.trace.specs.Format as Format
-use Rattle.trace.specs.Format.{viewAt, whole, commitsWith}
+use Rattle.trace.specs.Format.{viewAt, operationsAt, whole, commitsWith}
 use Rattle.trace.specs.Meaning.{meaning, PlacesFit, RecordSays}
 use Rattle.trace.proofs.Decoded.{ReadAt, record-read}
 use Rattle.trace.proofs.WellFormed.{FitsEvent}
+use Rattle.trace.proofs.Entries.{sound-fits, opening-fits}
 use Rattle.trace.proofs.Known.{not-whole}
 use Rattle.trace.specs.declared.records.Why.{Why}
 use Rattle.trace.specs.declared.records.Record.{Record}
@@ -34,16 +36,16 @@ use Rattle.run.specs.OneRecord.{Readable, nextOf, NextWithin, Standing, 
 
 -- what is read of a file of bytes lies in it
 pub record-readable : (file : List ℕ) → Bytes file → (at n clients : ℕ) (r : Record) → clients ≤ maxClients → RecordSays file at n clients r → Readable file n r
-unfolding meaning PlacesFit
+unfolding meaning PlacesFit event
 record-readable file bytes at n clients (Records.Shift client masks next) few (means, places) =
     let h : Format.Header = record { keys = n; clients = clients; records = 0 } in
-    let read = subst (ReadAt file h at) (sym (means 0)) (record-read file bytes h at) in
-    let below = read .0 .client-below in
+    let read = subst (ReadAt file h) (sym (means 0)) (record-read file bytes h at) in
+    let below = read .0 (opening n) (opening-fits n) .client-below in
     (omega arith, omega arith, places .1)
 record-readable file bytes at n clients (Records.Commit client count session operations masks next) few (means, places) =
     let h : Format.Header = record { keys = n; clients = clients; records = 0 } in
-    let read = subst (ReadAt file h at) (sym (means 0)) (record-read file bytes h at) in
-    let below = read .0 .client-below in
+    let read = subst (ReadAt file h) (sym (means 0)) (record-read file bytes h at) in
+    let below = read .0 (opening n) (opening-fits n) .client-below in
     (omega arith, omega arith, places .2, places .0, places .3)
 record-readable file bytes at n clients (Records.Refused w) few says = tt
 
@@ -56,11 +58,11 @@ within-of made (Refused code k v) l = tt
 pub goes-within : {size at : ℕ} (made : ℕ) (o : Outcome) {x : Next} → x ≡ nextOf o at made → at ≤ size → NextWithin size x
 goes-within {size = size} made o e l = subst (NextWithin size) (sym e) (within-of made o l)
 
-whole-same : {d e : Event} {m n : ℕ} → whole d m ≡ whole e n → (d ≡ e) × (m ≡ n)
+whole-same : {d e : Entry} {m n : ℕ} → whole d m ≡ whole e n → (d ≡ e) × (m ≡ n)
 whole-same q = (cc, cc)
 
 -- a record that was not read is none that fits
-pub not-read : {X : Type 0} {file : List ℕ} {n clients made next : ℕ} {r : Record} {e : Event} (w : Why) → r ≡ Records.Refused w → Fitting file n clients made r e next → X
+pub not-read : {X : Type 0} {file : List ℕ} {n clients made next : ℕ} {r : Record} {e : Entry} (w : Why) → r ≡ Records.Refused w → Fitting file n clients made r e next → X
 unfolding meaning
 not-read {file = file} {n = n} w q f = absurd (not-whole (sym (ap (meaning file n) q) ∙ f .means))
 
@@ -69,9 +71,9 @@ not-read {file = file} {n = n} w q f = absurd (not-whole (sym (ap (meaning file 
 module _ (file : List ℕ) (n client masks next made : ℕ) {r : Record} (is : r ≡ Records.Shift client masks next) (number : ℕ) {versions keys views seen views′ seen′ : List ℕ} (o : Outcome)
     (answer : (g : Configuration) (i : ℕ) → ShiftGiven g file masks client n versions keys views seen → outcomeOf i o ≡ refusesEvent i g (shift client (viewAt file masks n)))
     (kept : (g : Configuration) → ShiftGiven g file masks client n versions keys views seen → o ≡ Taken → KeepsViews (step g (shift client (viewAt file masks n))) views′ seen′) where
-  shift-event : {clients m : ℕ} {e : Event} → Fitting file n clients made r e m → (shift client (viewAt file masks n) ≡ e) × (next ≡ m)
-  unfolding meaning
-  shift-event f = whole-same (sym (ap (meaning file n) is) ∙ f .means)
+  shift-event : (g : Configuration) {clients m : ℕ} {x : Entry} → Fitting file n clients made r x m → (shift client (viewAt file masks n) ≡ event g x) × (next ≡ m)
+  unfolding meaning event over listedOr
+  shift-event g f = let (same, place) = whole-same (sym (ap (meaning file n) is) ∙ f .means) in (ap (event g) same, place)
 
   module _ {sessions commits links verdicts values : List ℕ} (g : Configuration) (fs : Level → Option Failure) (s : Standing g fs n made versions keys views seen sessions commits links verdicts values) where
     shift-given : {clients : ℕ} → FitsEvent n clients (shift client (viewAt file masks n)) → ShiftGiven g file masks client n versions keys views seen
@@ -117,26 +119,35 @@ module _ (file : List ℕ) (n client masks next made : ℕ) {r : Record} (is : r
     }
     shift-says given (Refused code k v) q = sym (answer g number given) ∙ ap (outcomeOf number) q
 
-    pub shift-one : (clients : ℕ) (e : Event) (m : ℕ) → Fitting file n clients made r e m → {x : Next} → x ≡ nextOf o next made
-        → NextSays number g fs e m versions keys views′ seen′ sessions commits links verdicts values x
+    pub shift-one : (clients : ℕ) (e : Entry) (m : ℕ) → Fitting file n clients made r e m → {x : Next} → x ≡ nextOf o next made
+        → NextSays number g fs (event g e) m versions keys views′ seen′ sessions commits links verdicts values x
     shift-one clients e m f q =
-        let (same, place) = shift-event f in
-        subst (NextSays number g fs e m versions keys views′ seen′ sessions commits links verdicts values) (sym q)
+        let (same, place) = shift-event g f in
+        subst (NextSays number g fs (event g e) m versions keys views′ seen′ sessions commits links verdicts values) (sym q)
         (subst₂ (λ (d : Event) (p : ℕ). NextSays number g fs d p versions keys views′ seen′ sessions commits links verdicts values (nextOf o next made)) same place
-        (shift-says (shift-given (subst (FitsEvent n clients) (sym same) (f .fits))) o refl))
+        (shift-says (shift-given (subst (FitsEvent n clients) (sym same) (f .fits g (sound-fits (s .sound) (s .keys-are))))) o refl))
 
 -- ---- a commit
 
 module _ (file : List ℕ) (n : ℕ) (at : CommitAt) (next made : ℕ) {r : Record} (is : r ≡ Records.Commit (at .client) (at .count) (at .session) (at .operations) (at .masks) next) where
-  commit-event : {clients m : ℕ} {e : Event} → Fitting file n clients made r e m → (commit (commitIn file at n) ≡ e) × (next ≡ m)
-  unfolding meaning
-  commit-event f = whole-same (sym (ap (meaning file n) is) ∙ f .means)
+  -- what it says
+  commit-said : Entry
+  commit-said = committing (at .client) (at .session) (operationsAt file (at .operations) (at .count)) (every (viewAt file (at .masks) n))
 
-  room-for : {clients m : ℕ} {e : Event} → Fitting file n clients made r e m → suc made ≤ maxCommits
-  room-for f = subst (λ (e : Event). commitsWith e made ≤ maxCommits) (sym (commit-event f .0)) (f .room)
+  commit-entry : {clients m : ℕ} {x : Entry} → Fitting file n clients made r x m → (commit-said ≡ x) × (next ≡ m)
+  unfolding meaning commit-said
+  commit-entry f = whole-same (sym (ap (meaning file n) is) ∙ f .means)
+
+  commit-event : (g : Configuration) {clients m : ℕ} {x : Entry} → Fitting file n clients made r x m → (commit (commitIn file at n) ≡ event g x) × (next ≡ m)
+  unfolding event over listedOr commit-said
+  commit-event g f = let (same, place) = commit-entry f in (ap (event g) same, place)
+
+  room-for : {clients m : ℕ} {x : Entry} → Fitting file n clients made r x m → suc made ≤ maxCommits
+  unfolding commit-said
+  room-for f = subst (λ (x : Entry). commitsWith x made ≤ maxCommits) (sym (commit-entry f .0)) (f .room)
 
   -- there is room for a commit that fits
-  pub no-room : {X : Type 0} {clients m : ℕ} {e : Event} → maxCommits ≤ made → Fitting file n clients made r e m → X
+  pub no-room : {X : Type 0} {clients m : ℕ} {e : Entry} → maxCommits ≤ made → Fitting file n clients made r e m → X
   no-room l f = absurd (omega (arith, room-for f))
 
   module _ (number : ℕ) {versions keys views seen sessions commits links verdicts values : List ℕ} {versions′ keys′ views′ seen′ sessions′ commits′ links′ verdicts′ : List ℕ} (values′ : List ℕ) (o : Outcome)
@@ -175,10 +186,10 @@ module _ (file : List ℕ) (n : ℕ) (at : CommitAt) (next made : ℕ) {r : Reco
     commit-says clients given (Refused code k v) q =
         let (answer, small, kept) = done g clients fs given (omega (arith, s .counted)) (s .small) (s .failures) in sym answer ∙ ap (outcomeOf number) q
 
-    pub commit-one : (clients : ℕ) (e : Event) (m : ℕ) → Fitting file n clients made r e m → {x : Next} → x ≡ nextOf o next (made + 1)
-        → NextSays number g fs e m versions′ keys′ views′ seen′ sessions′ commits′ links′ verdicts′ values′ x
+    pub commit-one : (clients : ℕ) (e : Entry) (m : ℕ) → Fitting file n clients made r e m → {x : Next} → x ≡ nextOf o next (made + 1)
+        → NextSays number g fs (event g e) m versions′ keys′ views′ seen′ sessions′ commits′ links′ verdicts′ values′ x
     commit-one clients e m f q =
-        let (same, place) = commit-event f in
-        subst (NextSays number g fs e m versions′ keys′ views′ seen′ sessions′ commits′ links′ verdicts′ values′) (sym q)
+        let (same, place) = commit-event g f in
+        subst (NextSays number g fs (event g e) m versions′ keys′ views′ seen′ sessions′ commits′ links′ verdicts′ values′) (sym q)
         (subst₂ (λ (d : Event) (p : ℕ). NextSays number g fs d p versions′ keys′ views′ seen′ sessions′ commits′ links′ verdicts′ values′ (nextOf o next (made + 1))) same place
-        (commit-says clients (recorded clients (f .few-clients) (subst (FitsEvent n clients) (sym same) (f .fits)) (room-for f)) o refl))
+        (commit-says clients (recorded clients (f .few-clients) (subst (FitsEvent n clients) (sym same) (f .fits g (sound-fits (s .sound) (s .keys-are)))) (room-for f)) o refl))

@@ -8,18 +8,19 @@ use native.Mathlib.Numerals.{add-one}
 use Rattle.search.specs.Choose.{orElse}
 use Rattle.endian.specs.Endian.{Bytes}
 use Rattle.store.specs.Limits.{maxClients, maxCommits, minBytes}
-use Rattle.store.specs.Store.{Configuration, openingStore, opening, Event, shift, commit}
+use Rattle.store.specs.Store.{Configuration, openingStore, opening}
 use Rattle.store.specs.Update.{step, firstAlong}
 use Rattle.store.specs.Refusal.{refusesEvent}
 use Rattle.store.proofs.Sound.{Sound, FitsView, FitsCommit}
 use Rattle.trace.specs.Result.{taken}
-use Rattle.trace.specs.Format.{Header, commitsWith, eventsFrom}
+use Rattle.trace.specs.Entry.{Entry, shifting, committing, over, commitMeant, event, eventsOf}
+use Rattle.trace.specs.Format.{Header, commitsWith, entriesFrom}
 use Rattle.trace.specs.Meaning.{RecordSays, InFormAt}
 use Rattle.trace.specs.declared.records.Record.{Record}
 use Rattle.trace.proofs.Decoded.{ReadAt, record-read}
-use Rattle.trace.proofs.WellFormed.{FitsEvent}
+use Rattle.trace.proofs.Entries.{ViewsFit, FitsEntry, sound-fits}
 use Rattle.trace.proofs.Fits.{commit-fits}
-use Rattle.trace.proofs.InForm.{First, first-in-form, events-first}
+use Rattle.trace.proofs.InForm.{First, first-in-form, entries-first}
 use Rattle.levels.specs.Level.{Level, Failure, failsEvent}
 use Rattle.state.specs.declared.Key.{Key}
 use Rattle.state.specs.declared.VersionNumber.{VersionNumber}
@@ -36,12 +37,12 @@ use Rattle.run.proofs.Along.{along-start, Ahead, nothing-left, along-re
 abbrev header : ℕ → ℕ → ℕ → Header
 header n clients records = record { keys = n; clients = clients; records = records }
 
--- the run of the records es stands before record `number`, and the arrays keep what there is
-pub record Stands (file : List ℕ) (n clients records : ℕ) (es : List Event) (left at number made : ℕ) (versions keys views seen sessions commits links verdicts values : List ℕ) : Type 0 where
+-- the run of the records rs stands before record `number`, and the arrays keep what there is
+pub record Stands (file : List ℕ) (n clients records : ℕ) (rs : List Entry) (left at number made : ℕ) (versions keys views seen sessions commits links verdicts values : List ℕ) : Type 0 where
   pub g : Configuration
-  pub rest : List Event
+  pub rest : List Entry
   pub fs : Level → Option Failure
-  pub along : Along file (header n clients records) es left at number g rest fs
+  pub along : Along file (header n clients records) (eventsOf (opening n) rs) left at number g rest fs
   pub counted : g .store .commits ≡ made
   pub keeps : Keeps g versions keys views seen sessions commits links
   pub failures : KeepsVerdicts fs verdicts
@@ -51,15 +52,15 @@ pub record Stands (file : List ℕ) (n clients records : ℕ) (es : List Event) 
 failures-same : {fs gs : Level → Option Failure} {verdicts : List ℕ} → ((l : Level) → gs l ≡ fs l) → KeepsVerdicts fs verdicts → KeepsVerdicts gs verdicts
 failures-same {verdicts = verdicts} q k = record { room = k .room; verdict = λ i b. subst (KeepsVerdict verdicts i) (sym (q _)) (k .verdict i b) }
 
-module _ {file : List ℕ} {n clients records : ℕ} {es : List Event} where
-  pub run-starts : {versions keys views seen sessions commits links verdicts values : List ℕ} → Starts file n clients records es versions keys views seen sessions commits links verdicts values
-      → Stands file n clients records es records minBytes 1 0 versions keys views seen sessions commits links verdicts values
+module _ {file : List ℕ} {n clients records : ℕ} {rs : List Entry} where
+  pub run-starts : {versions keys views seen sessions commits links verdicts values : List ℕ} → Starts file n clients records rs versions keys views seen sessions commits links verdicts values
+      → Stands file n clients records rs records minBytes 1 0 versions keys views seen sessions commits links verdicts values
   unfolding opening openingStore
   run-starts s = record {
     g = opening n;
-    rest = es;
+    rest = rs;
     fs = λ l. none;
-    along = along-start file (header n clients records) es (s .read);
+    along = along-start file (header n clients records) rs (s .read);
     counted = refl;
     keeps = s .keeps;
     failures = s .no-failure;
@@ -67,12 +68,12 @@ module _ {file : List ℕ} {n clients records : ℕ} {es : List Event} where
   }
 
   module _ {left at number made : ℕ} {versions keys views seen sessions commits links verdicts values : List ℕ}
-      (s : Stands file n clients records es left at number made versions keys views seen sessions commits links verdicts values) where
-    pub run-ends : left ≡ 0 → Ended n es made versions keys views seen sessions commits links verdicts
+      (s : Stands file n clients records rs left at number made versions keys views seen sessions commits links verdicts values) where
+    pub run-ends : left ≡ 0 → Ended n (eventsOf (opening n) rs) made versions keys views seen sessions commits links verdicts
     run-ends none-left =
         let h = header n clients records in
-        let done = nothing-left file h at number (s .g .store .commits) (s .rest) (subst (λ (m : ℕ). eventsFrom file h m at number (s .g .store .commits) ≡ taken (s .rest)) none-left (s .along .read)) in
-        let (no-refusal, ends, verdicts-are) = along-end file h es left at number (s .g) (s .rest) (s .fs) (s .along) done in
+        let done = nothing-left file h at number (s .g .store .commits) (s .rest) (subst (λ (m : ℕ). entriesFrom file h m at number (s .g .store .commits) ≡ taken (s .rest)) none-left (s .along .read)) in
+        let (no-refusal, ends, verdicts-are) = along-end file h (eventsOf (opening n) rs) left at number (s .g) (s .rest) (s .fs) (s .along) done in
         record {
           none-refused = no-refusal;
           counted = ap (λ (g : Configuration). g .store .commits) ends ∙ s .counted;
@@ -101,20 +102,20 @@ module _ {file : List ℕ} {n clients records : ℕ} {es : List Event} where
 
     module _ (bytes : Bytes file) (few-clients : clients ≤ maxClients) (some-left : 0 < left) (r : Record) (says : RecordSays file at n clients r) where
       first : First file (header n clients records) number (s .g .store .commits) left r (s .rest)
-      first = events-first file (header n clients records) at number (s .g .store .commits) left r (says .0 records) some-left (s .along .read)
+      first = entries-first file (header n clients records) at number (s .g .store .commits) left r (says .0 records) some-left (s .along .read)
 
-      fits : FitsEvent n clients (first .event)
-      fits = subst (ReadAt file (header n clients records) at) (sym (says .0 records) ∙ first .read) (record-read file bytes (header n clients records) at) .0
+      fits : FitsEntry n clients (first .entry)
+      fits = subst (ReadAt file (header n clients records)) (sym (says .0 records) ∙ first .read) (record-read file bytes (header n clients records) at) .0
 
-      fitting : Fitting file n clients made r (first .event) (first .next)
+      fitting : Fitting file n clients made r (first .entry) (first .next)
       fitting = record {
         means = first .read;
         few-clients = few-clients;
         fits = fits;
-        room = subst (λ (m : ℕ). commitsWith (first .event) m ≤ maxCommits) (s .counted) (first .few-commits);
+        room = subst (λ (m : ℕ). commitsWith (first .entry) m ≤ maxCommits) (s .counted) (first .few-commits);
       }
 
-      ahead-is : Ahead file (header n clients records) (left - 1) number (first .next) (s .g .store .commits) (first .event) (s .rest)
+      ahead-is : Ahead file (header n clients records) (left - 1) number (first .next) (s .g .store .commits) (first .entry) (s .rest)
       ahead-is = record {
         after = first .others;
         first = first .is-first;
@@ -122,38 +123,44 @@ module _ {file : List ℕ} {n clients records : ℕ} {es : List Event} where
         few = first .few-commits;
       }
 
-      along-on : (e : Event) → FitsEvent n clients e → (next : ℕ) → Ahead file (header n clients records) (left - 1) number next (s .g .store .commits) e (s .rest)
-          → refusesEvent number (s .g) e ≡ none
-          → (after : List Event) × Along file (header n clients records) es (left - 1) next (suc number) (step (s .g) e) after (λ l. orElse (s .fs l) (failsEvent l number (s .g) e))
-      along-on (shift d u) f next a q =
-          along-shift file (header n clients records) es left at number (s .g) (s .rest) (s .fs) (s .along) d u (left - 1) next
-          (subst (λ (m : ℕ). FitsView m u) (sym (s .along .keys-are)) (f .view-fits)) a q
-      along-on (commit c) f next a q =
-          along-commit file (header n clients records) es left at number (s .g) (s .rest) (s .fs) (s .along) c (left - 1) next
-          (subst (λ (m : ℕ). FitsCommit m c) (sym (s .along .keys-are)) (commit-fits n clients c f)) (omega (arith, f .client-below)) a q
+      views-fit : ViewsFit n (s .g)
+      views-fit = sound-fits (s .along .sound) (s .along .keys-are)
 
-      moved : {g : Configuration} {rest : List Event} {fs : Level → Option Failure} {next place : ℕ} → Along file (header n clients records) es (left - 1) next (suc number) g rest fs → place ≡ next
-          → Along file (header n clients records) es (left - 1) place (number + 1) g rest fs
+      along-on : (x : Entry) → FitsEntry n clients x → (next : ℕ) → Ahead file (header n clients records) (left - 1) number next (s .g .store .commits) x (s .rest)
+          → refusesEvent number (s .g) (event (s .g) x) ≡ none
+          → (after : List Entry) × Along file (header n clients records) (eventsOf (opening n) rs) (left - 1) next (suc number) (step (s .g) (event (s .g) x)) after (λ l. orElse (s .fs l) (failsEvent l number (s .g) (event (s .g) x)))
+      unfolding event
+      along-on (shifting d m) f next a q =
+          along-shift file (header n clients records) (eventsOf (opening n) rs) left at number (s .g) (s .rest) (s .fs) (s .along) d m (left - 1) next
+          (subst (λ (k : ℕ). FitsView k (over (s .g .views d) m)) (sym (s .along .keys-are)) (f (s .g) views-fit .view-fits)) a q
+      along-on (committing d v os m) f next a q =
+          let c = commitMeant (s .g) d v os m in
+          let fits = f (s .g) views-fit in
+          along-commit file (header n clients records) (eventsOf (opening n) rs) left at number (s .g) (s .rest) (s .fs) (s .along) d v os m (left - 1) next
+          (subst (λ (k : ℕ). FitsCommit k c) (sym (s .along .keys-are)) (commit-fits n clients c fits)) (omega (arith, fits .client-below)) a q
+
+      moved : {g : Configuration} {rest : List Entry} {fs : Level → Option Failure} {next place : ℕ} → Along file (header n clients records) (eventsOf (opening n) rs) (left - 1) next (suc number) g rest fs → place ≡ next
+          → Along file (header n clients records) (eventsOf (opening n) rs) (left - 1) place (number + 1) g rest fs
       moved a q = rw (q, add-one number) a
 
       module _ (versions′ keys′ views′ seen′ sessions′ commits′ links′ verdicts′ values′ : List ℕ) (x : Next)
-          (answer : (g : Configuration) (fs : Level → Option Failure) (clients : ℕ) (e : Event) (next : ℕ) → Fitting file n clients made r e next
+          (answer : (g : Configuration) (fs : Level → Option Failure) (clients : ℕ) (e : Entry) (next : ℕ) → Fitting file n clients made r e next
           → Standing g fs n made versions keys views seen sessions commits links verdicts values
-          → NextSays number g fs e next versions′ keys′ views′ seen′ sessions′ commits′ links′ verdicts′ values′ x) where
-        said : {y : Next} → x ≡ y → NextSays number (s .g) (s .fs) (first .event) (first .next) versions′ keys′ views′ seen′ sessions′ commits′ links′ verdicts′ values′ y
+          → NextSays number g fs (event g e) next versions′ keys′ views′ seen′ sessions′ commits′ links′ verdicts′ values′ x) where
+        said : {y : Next} → x ≡ y → NextSays number (s .g) (s .fs) (event (s .g) (first .entry)) (first .next) versions′ keys′ views′ seen′ sessions′ commits′ links′ verdicts′ values′ y
         said q =
-            subst (NextSays number (s .g) (s .fs) (first .event) (first .next) versions′ keys′ views′ seen′ sessions′ commits′ links′ verdicts′ values′) q
-            (answer (s .g) (s .fs) clients (first .event) (first .next) fitting standing)
+            subst (NextSays number (s .g) (s .fs) (event (s .g) (first .entry)) (first .next) versions′ keys′ views′ seen′ sessions′ commits′ links′ verdicts′ values′) q
+            (answer (s .g) (s .fs) clients (first .entry) (first .next) fitting standing)
 
         pub run-goes : {place count : ℕ} → x ≡ Goes place count
-            → Stands file n clients records es (left - 1) place (number + 1) count versions′ keys′ views′ seen′ sessions′ commits′ links′ verdicts′ values′
+            → Stands file n clients records rs (left - 1) place (number + 1) count versions′ keys′ views′ seen′ sessions′ commits′ links′ verdicts′ values′
         run-goes {place} {count} q =
-            let went : Went number (s .g) (s .fs) (first .event) (first .next) place count versions′ keys′ views′ seen′ sessions′ commits′ links′ verdicts′ values′ = said q in
-            let (after, along) = along-on (first .event) fits (first .next) ahead-is (went .not-refused) in
+            let went : Went number (s .g) (s .fs) (event (s .g) (first .entry)) (first .next) place count versions′ keys′ views′ seen′ sessions′ commits′ links′ verdicts′ values′ = said q in
+            let (after, along) = along-on (first .entry) fits (first .next) ahead-is (went .not-refused) in
             record {
-              g = step (s .g) (first .event);
+              g = step (s .g) (event (s .g) (first .entry));
               rest = after;
-              fs = λ l. orElse (s .fs l) (failsEvent l number (s .g) (first .event));
+              fs = λ l. orElse (s .fs l) (failsEvent l number (s .g) (event (s .g) (first .entry)));
               along = moved along (went .place);
               counted = went .counted;
               keeps = went .keeps;
@@ -162,5 +169,5 @@ module _ {file : List ℕ} {n clients records : ℕ} {es : List Event} where
             }
 
         pub run-stops : {code : ℕ} {k : Key} {v : VersionNumber} → x ≡ Stops code k v
-            → firstAlong refusesEvent 1 (opening n) es ≡ some (record { code = code; atRecord = number; key = k .0; version = v .0 })
-        run-stops q = along-refused file (header n clients records) es left at number (s .g) (s .rest) (s .fs) (s .along) (first .event) (first .others) (first .is-first) _ (said q)
+            → firstAlong refusesEvent 1 (opening n) (eventsOf (opening n) rs) ≡ some (record { code = code; atRecord = number; key = k .0; version = v .0 })
+        run-stops q = along-refused file (header n clients records) (eventsOf (opening n) rs) left at number (s .g) (s .rest) (s .fs) (s .along) (first .entry) (first .others) (first .is-first) _ (said q)

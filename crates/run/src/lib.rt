@@ -10,7 +10,8 @@ ghost use Prim.Native.Nat.{_≤_, _<_};
 ghost use mathlib.Core.Path.{_≡_};
 ghost use mathlib.Core.List.{List};
 ghost use lib.ListN.{length};
-ghost use Rattle.store.specs.Store.{Event};
+ghost use Rattle.store.specs.Store.{opening};
+ghost use Rattle.trace.specs.Entry.{Entry, eventsOf};
 ghost use Rattle.run.specs.Ran.{Starts, RanSays};
 
 // What the run of a trace comes to: all records are done, with so many commits, or one is refused.
@@ -46,11 +47,11 @@ pub fn run_all(
     requires { ⌜ (1 ≤ n) × (n ≤ 16) × (clients ≤ 16) × (12 ≤ length (now file)) × (length (now file) ≤ 65536) × (records < 65536) ⌝ }
     requires { ⌜ (length (now verdicts) ≡ 40) × (length (now values) ≡ 32) × (length (now fresh) ≡ 16) ⌝ }
     requires { ⌜ (length (now versions) ≡ 2048) × (length (now keys) ≡ 32) × (length (now views) ≡ 256) × (length (now seen) ≡ 16) × (length (now sessions) ≡ 48) × (length (now commits) ≡ 192) × (length (now links) ≡ 160) ⌝ }
-    requires { ⌜ ((es : List Event) × Starts (now file) n clients records es (now versions) (now keys) (now views) (now seen) (now sessions) (now commits) (now links) (now verdicts) (now values)) ⌝ }
+    requires { ⌜ ((rs : List Entry) × Starts (now file) n clients records rs (now versions) (now keys) (now views) (now seen) (now sessions) (now commits) (now links) (now verdicts) (now values)) ⌝ }
     ensures { λ r. ⌜
-        ((es : List Event)
-        → Starts (now (file .entry)) n clients records es (now (versions .entry)) (now (keys .entry)) (now (views .entry)) (now (seen .entry)) (now (sessions .entry)) (now (commits .entry)) (now (links .entry)) (now (verdicts .entry)) (now (values .entry))
-        → RanSays n es (now (versions .exit)) (now (keys .exit)) (now (views .exit)) (now (seen .exit)) (now (sessions .exit)) (now (commits .exit)) (now (links .exit)) (now (verdicts .exit)) r)
+        ((rs : List Entry)
+        → Starts (now (file .entry)) n clients records rs (now (versions .entry)) (now (keys .entry)) (now (views .entry)) (now (seen .entry)) (now (sessions .entry)) (now (commits .entry)) (now (links .entry)) (now (verdicts .entry)) (now (values .entry))
+        → RanSays n (eventsOf (opening n) rs) (now (versions .exit)) (now (keys .exit)) (now (views .exit)) (now (seen .exit)) (now (sessions .exit)) (now (commits .exit)) (now (links .exit)) (now (verdicts .exit)) r)
         ⌝ }
 {
     let mut at = store::Store::HEADER;

@@ -10,7 +10,8 @@ ghost use Prim.Native.Nat.{ℕ, _≤_};
 ghost use mathlib.Core.Path.{_≡_};
 ghost use mathlib.Core.Option.{Option};
 ghost use lib.ListN.{length};
-ghost use Rattle.store.specs.Store.{Configuration, Event};
+ghost use Rattle.store.specs.Store.{Configuration};
+ghost use Rattle.trace.specs.Entry.{Entry, event};
 ghost use Rattle.levels.specs.Level.{Level, Failure};
 ghost use Rattle.run.specs.OneRecord.{Readable, nextOf, NextWithin, Standing, NextSays, Fitting};
 
@@ -58,10 +59,10 @@ pub fn one_record(
     requires { ⌜ (1 ≤ n) × (n ≤ 16) × Readable (now file) n r × (length (now verdicts) ≡ 40) × (length (now values) ≡ 32) × (length (now fresh) ≡ 16) ⌝ }
     requires { ⌜ (length (now versions) ≡ 2048) × (length (now keys) ≡ 32) × (length (now views) ≡ 256) × (length (now seen) ≡ 16) × (length (now sessions) ≡ 48) × (length (now commits) ≡ 192) × (length (now links) ≡ 160) ⌝ }
     ensures within { λ x. ⌜ NextWithin (length (now (file .entry))) x ⌝ }
-    ensures answer { λ x. ⌜
-        ((g : Configuration) (fs : Level → Option Failure) (clients : ℕ) (e : Event) (next : ℕ) → Fitting (now (file .entry)) n clients made r e next
+    ensures answer { λ y. ⌜
+        ((g : Configuration) (fs : Level → Option Failure) (clients : ℕ) (x : Entry) (next : ℕ) → Fitting (now (file .entry)) n clients made r x next
         → Standing g fs n made (now (versions .entry)) (now (keys .entry)) (now (views .entry)) (now (seen .entry)) (now (sessions .entry)) (now (commits .entry)) (now (links .entry)) (now (verdicts .entry)) (now (values .entry))
-        → NextSays number g fs e next (now (versions .exit)) (now (keys .exit)) (now (views .exit)) (now (seen .exit)) (now (sessions .exit)) (now (commits .exit)) (now (links .exit)) (now (verdicts .exit)) (now (values .exit)) x)
+        → NextSays number g fs (event g x) next (now (versions .exit)) (now (keys .exit)) (now (views .exit)) (now (seen .exit)) (now (sessions .exit)) (now (commits .exit)) (now (links .exit)) (now (verdicts .exit)) (now (values .exit)) y)
         ⌝ }
 {
     match r {

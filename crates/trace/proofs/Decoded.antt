@@ -1,5 +1,5 @@
--- What is read from a file of bytes is well-formed, and as long as the file. One lemma for each definition of the format, in its
--- order; each says what holds of what is read, if something is. Assumes nothing.
+-- What is read from a file of bytes is well-formed. One lemma for each definition of the format, in its order; each says what holds of
+-- what is read, if something is. Assumes nothing.
 use Prim.Native.Nat.{ℕ, zero, suc, _+_, _*_, _^_, _≤_, _<_, zero-le}
 use mathlib.Core.Path.{_≡_, refl, sym, ap, subst}
 use mathlib.Core.List.{List, [], _∷_}
@@ -11,15 +11,17 @@ use Rattle.search.proofs.Choose.{choose-no, choose-ind, need-ind}
 use Rattle.endian.specs.Endian.{Bytes, leAt}
 use Rattle.endian.proofs.Laws.{leAt-lt}
 use Rattle.store.specs.Limits.{maxCommits, minBytes, maxBytes}
-use Rattle.store.specs.Store.{Event}
+use Rattle.store.specs.Store.{Configuration, opening}
+use Rattle.store.specs.Update.{step}
 use Rattle.store.proofs.Sound.{FitsView}
 use Rattle.store.proofs.Run.{commitsIn}
 use Rattle.trace.specs.Result.{Result, refused, taken, onTaken}
-use Rattle.trace.specs.Format.{Header, Trace, viewAt, accessOf, operationAt, operationsAt, rankAt, operationFits, operationsFit, Record, misshapen, whole, shiftAt, commitLength, commitOf, commitAt, recordAt, commitsWith, onRecord, eventsFrom, headerAt, withinLimits, decode}
-use Rattle.trace.specs.Encode.{accessNumber, encode}
-use Rattle.trace.proofs.Sizes.{eventLength, eventsLength, length-encode}
+use Rattle.trace.specs.Entry.{Entry, listedOr, over, event, eventsOf}
+use Rattle.trace.specs.Format.{Header, Trace, viewAt, accessOf, operationAt, operationsAt, rankAt, operationFits, operationsFit, Record, misshapen, whole, shiftAt, commitOf, commitAt, recordAt, commitsWith, onRecord, entriesFrom, headerAt, withinLimits, traceOf, decode}
+use Rattle.trace.specs.Encode.{accessNumber}
 use Rattle.trace.proofs.Tests.{operationFits-is, withinLimits-is}
-use Rattle.trace.proofs.WellFormed.{rank, FitsOperation, Rise, FitsEvent, FitsEvents, commitsWith-commitsIn, WellFormed}
+use Rattle.trace.proofs.WellFormed.{rank, FitsOperation, Rise, FitsEvents, WellFormed}
+use Rattle.trace.proofs.Entries.{length-eventsOf, commitsWith-commitsIn, ViewsFit, FitsEntry, opening-fits, step-fits}
 
 -- ---- answers
 
@@ -37,53 +39,52 @@ onTaken-ind Q P (taken a) f q g = g a q
 
 -- ---- what holds of what is read
 
--- of a record at `at`: it fits, the next one starts where it ends, and it ends within the file
-abbrev pub ReadAt : List ℕ → Header → ℕ → Record → Type 0
-ReadAt s h at (misshapen code) = Unit {0}
-ReadAt s h at (whole e next) = FitsEvent (h .keys) (h .clients) e × (next ≡ at + eventLength (h .keys) e) × (next ≤ length s)
+-- of a record: it fits, and the next one starts within the file
+abbrev pub ReadAt : List ℕ → Header → Record → Type 0
+ReadAt s h (misshapen code) = Unit {0}
+ReadAt s h (whole r next) = FitsEntry (h .keys) (h .clients) r × (next ≤ length s)
 
--- of the `left` records from `at` on, with `commits` before them
-pub record EventsRead (s : List ℕ) (h : Header) (left at commits : ℕ) (es : List Event) : Type 0 where
-  pub fitting : FitsEvents (h .keys) (h .clients) es
-  pub counted : length es ≡ left
-  pub few-commits : commits + commitsIn es ≤ maxCommits
-  pub to-the-end : at + eventsLength (h .keys) es ≡ length s
+-- of `left` records with `commits` before them: what they mean fits, wherever views do
+pub record EntriesRead (h : Header) (left commits : ℕ) (rs : List Entry) : Type 0 where
+  pub fitting : (g : Configuration) → ViewsFit (h .keys) g → FitsEvents (h .keys) (h .clients) (eventsOf g rs)
+  pub counted : length rs ≡ left
+  pub few-commits : (g : Configuration) → commits + commitsIn (eventsOf g rs) ≤ maxCommits
 
--- of none, at the end of the file
-none-read : (s : List ℕ) (h : Header) (at commits : ℕ) → commits ≤ maxCommits → at ≡ length s → EventsRead s h 0 at commits []
-unfolding commitsIn eventsLength
-none-read s h at commits few done = record { fitting = tt; counted = refl; few-commits = omega arith; to-the-end = omega arith }
+-- of none
+none-read : (h : Header) (commits : ℕ) → commits ≤ maxCommits → EntriesRead h 0 commits []
+unfolding commitsIn eventsOf
+none-read h commits few = record { fitting = λ g v. tt; counted = refl; few-commits = λ g. omega arith }
 
 -- of a record and those after it
-one-more-read : (s : List ℕ) (h : Header) (left at commits : ℕ) (e : Event) (es : List Event) → FitsEvent (h .keys) (h .clients) e
-    → EventsRead s h left (at + eventLength (h .keys) e) (commitsWith e commits) es → EventsRead s h (suc left) at commits (e ∷ es)
-unfolding eventsLength
-one-more-read s h left at commits e es fits rest =
-    let total = commitsWith-commitsIn e es commits in
-    let size = eventLength (h .keys) e in
-    record { fitting = (fits, rest .fitting); counted = ap suc (rest .counted); few-commits = omega arith; to-the-end = omega arith }
+one-more-read : (h : Header) (left commits : ℕ) (r : Entry) (rs : List Entry) → FitsEntry (h .keys) (h .clients) r
+    → EntriesRead h left (commitsWith r commits) rs → EntriesRead h (suc left) commits (r ∷ rs)
+unfolding eventsOf
+one-more-read h left commits r rs fits rest = record {
+  fitting = λ g v. (fits g v, rest .fitting (step g (event g r)) (step-fits (h .keys) (h .clients) g (event g r) v (fits g v)));
+  counted = ap suc (rest .counted);
+  few-commits = λ g.
+      let total = commitsWith-commitsIn g r (eventsOf (step g (event g r)) rs) commits in
+      let others = rest .few-commits (step g (event g r)) in
+      omega arith;
+}
 
--- of a trace: it is well-formed, and its own file is as long as this one
+-- of a trace: it is well-formed, and the file is neither too short nor too long
 abbrev pub TraceRead : List ℕ → Trace → Type 0
-TraceRead s t = WellFormed t × (length (encode t) ≡ length s)
+TraceRead s t = WellFormed t × (minBytes ≤ length s) × (length s ≤ maxBytes)
 
-trace-read : (s : List ℕ) (h : Header) (es : List Event) → T (withinLimits h) → length s ≤ maxBytes → h .records < 65536
-    → EventsRead s h (h .records) minBytes 0 es → TraceRead s (record { keys = h .keys; clients = h .clients; events = es })
-trace-read s h es limits short counted rest =
+trace-read : (h : Header) (rs : List Entry) → T (withinLimits h) → h .records < 65536 → EntriesRead h (h .records) 0 rs → WellFormed (traceOf h rs)
+trace-read h rs limits counted rest =
     let (some-key, few-keys, some-client, few-clients) = withinLimits-is h .0 limits in
-    let size = length-encode (record { keys = h .keys; clients = h .clients; events = es }) in (
-      record {
-        some-key = some-key;
-        few-keys = few-keys;
-        some-client = some-client;
-        few-clients = few-clients;
-        few-records = omega arith;
-        few-commits = omega arith;
-        short = omega arith;
-        fitting = rest .fitting;
-      },
-      omega arith,
-    )
+    let as-many = length-eventsOf (opening (h .keys)) rs in
+    record {
+      some-key = some-key;
+      few-keys = few-keys;
+      some-client = some-client;
+      few-clients = few-clients;
+      few-records = omega (arith, rest .counted);
+      few-commits = omega (arith, rest .few-commits (opening (h .keys)));
+      fitting = rest .fitting (opening (h .keys)) (opening-fits (h .keys));
+    }
 
 -- ---- views and operations
 
@@ -128,65 +129,61 @@ module _ (s : List ℕ) (bytes : Bytes s) where
 
   -- ---- one record
 
-  shift-read : (h : Header) (at : ℕ) → ReadAt s h at (shiftAt s h at)
-  unfolding shiftAt
+  shift-read : (h : Header) (at : ℕ) → ReadAt s h (shiftAt s h at)
+  unfolding shiftAt event over listedOr
   shift-read h at =
-      need-ind (ReadAt s h at) _ _ _ tt (λ size.
-      need-ind (ReadAt s h at) _ _ _ tt (λ within.
-      need-ind (ReadAt s h at) _ _ _ tt (λ client.
-      need-ind (ReadAt s h at) _ _ _ tt (λ spare.
-      (record { client-below = ltb→lt _ _ client; view-fits = view-read (at + 6) (h .keys) }, refl, leb→le _ _ within)))))
+      need-ind (ReadAt s h) _ _ _ tt (λ size.
+      need-ind (ReadAt s h) _ _ _ tt (λ within.
+      need-ind (ReadAt s h) _ _ _ tt (λ client.
+      need-ind (ReadAt s h) _ _ _ tt (λ spare.
+      (λ g v. record { client-below = ltb→lt _ _ client; view-fits = view-read (at + 6) (h .keys) }, leb→le _ _ within)))))
 
-  commit-of-read : (h : Header) (at m : ℕ) → ReadAt s h at (commitOf s h at m)
-  unfolding commitOf
+  commit-of-read : (h : Header) (at m : ℕ) → ReadAt s h (commitOf s h at m)
+  unfolding commitOf event over listedOr
   commit-of-read h at m =
-      need-ind (ReadAt s h at) _ _ _ tt (λ size.
-      need-ind (ReadAt s h at) _ _ _ tt (λ within.
-      need-ind (ReadAt s h at) _ _ _ tt (λ client.
-      need-ind (ReadAt s h at) _ _ _ tt (λ fit. (
-        record {
+      need-ind (ReadAt s h) _ _ _ tt (λ size.
+      need-ind (ReadAt s h) _ _ _ tt (λ within.
+      need-ind (ReadAt s h) _ _ _ tt (λ client.
+      need-ind (ReadAt s h) _ _ _ tt (λ fit. (
+        λ g v. record {
           client-below = ltb→lt _ _ client;
           session-fits = leAt-lt s bytes 4 (at + 6);
           rising = operations-read m (at + 10) (h .keys) 0 fit;
           view-fits = view-read (at + (10 + 8 * m)) (h .keys);
         },
-        ap (λ k. at + commitLength (h .keys) k) (sym (length-operationsAt s (at + 10) m)),
         leb→le _ _ within,
       )))))
 
-  commit-read : (h : Header) (at : ℕ) → ReadAt s h at (commitAt s h at)
+  commit-read : (h : Header) (at : ℕ) → ReadAt s h (commitAt s h at)
   unfolding commitAt
-  commit-read h at = need-ind (ReadAt s h at) _ _ _ tt (λ within. commit-of-read h at (leAt s (at + 5) 1))
+  commit-read h at = need-ind (ReadAt s h) _ _ _ tt (λ within. commit-of-read h at (leAt s (at + 5) 1))
 
   -- what holds of the record at `at`
-  pub record-read : (h : Header) (at : ℕ) → ReadAt s h at (recordAt s h at)
+  pub record-read : (h : Header) (at : ℕ) → ReadAt s h (recordAt s h at)
   unfolding recordAt
   record-read h at =
-      need-ind (ReadAt s h at) _ _ _ tt (λ four.
-      choose-ind (ReadAt s h at) _ _ _ (λ t. shift-read h at) (λ t.
-      choose-ind (ReadAt s h at) _ _ _ (λ t. commit-read h at) (λ t. tt)))
+      need-ind (ReadAt s h) _ _ _ tt (λ four.
+      choose-ind (ReadAt s h) _ _ _ (λ t. shift-read h at) (λ t.
+      choose-ind (ReadAt s h) _ _ _ (λ t. commit-read h at) (λ t. tt)))
 
   -- ---- all records
 
   -- going on after a record
-  on-record-read : {A : Type 0} (P : A → Type 0) (h : Header) (at n commits : ℕ) (f : Event → ℕ → ℕ → Result A) (r : Record) → ReadAt s h at r
-      → ((e : Event) → FitsEvent (h .keys) (h .clients) e → commitsWith e commits ≤ maxCommits → IfTaken P (f e (at + eventLength (h .keys) e) (commitsWith e commits)))
+  on-record-read : {A : Type 0} (P : A → Type 0) (h : Header) (n commits : ℕ) (f : Entry → ℕ → ℕ → Result A) (r : Record) → ReadAt s h r
+      → ((r : Entry) (next : ℕ) → FitsEntry (h .keys) (h .clients) r → commitsWith r commits ≤ maxCommits → IfTaken P (f r next (commitsWith r commits)))
       → IfTaken P (onRecord r n commits f)
   unfolding onRecord
-  on-record-read P h at n commits f (misshapen code) read rest = tt
-  on-record-read P h at n commits f (whole e next) read rest =
-      need-ind (IfTaken P) _ _ _ tt (λ few. rw (read .1) (rest e (read .0) (leb→le _ _ few)))
+  on-record-read P h n commits f (misshapen code) read rest = tt
+  on-record-read P h n commits f (whole r next) read rest = need-ind (IfTaken P) _ _ _ tt (λ few. rest r next (read .0) (leb→le _ _ few))
 
   -- what holds of the records from `at` on
-  pub events-read : (h : Header) (left at n commits : ℕ) → commits ≤ maxCommits → IfTaken (EventsRead s h left at commits) (eventsFrom s h left at n commits)
-  unfolding eventsFrom
-  events-read h zero at n commits few =
-      need-ind (IfTaken (EventsRead s h zero at commits)) _ _ _ tt (λ done. none-read s h at commits few (eqb→eq _ _ done))
-  events-read h (suc left) at n commits few =
-      on-record-read (EventsRead s h (suc left) at commits) h at n commits _ (recordAt s h at) (record-read h at) (λ e fits count.
-      let next = at + eventLength (h .keys) e in
-      onTaken-ind (EventsRead s h left next (commitsWith e commits)) (EventsRead s h (suc left) at commits) _ _
-      (events-read h left next (suc n) (commitsWith e commits) count) (λ es rest. one-more-read s h left at commits e es fits rest))
+  pub entries-read : (h : Header) (left at n commits : ℕ) → commits ≤ maxCommits → IfTaken (EntriesRead h left commits) (entriesFrom s h left at n commits)
+  unfolding entriesFrom
+  entries-read h zero at n commits few = need-ind (IfTaken (EntriesRead h zero commits)) _ _ _ tt (λ done. none-read h commits few)
+  entries-read h (suc left) at n commits few =
+      on-record-read (EntriesRead h (suc left) commits) h n commits _ (recordAt s h at) (record-read h at) (λ r next fits count.
+      onTaken-ind (EntriesRead h left (commitsWith r commits)) (EntriesRead h (suc left) commits) _ _
+      (entries-read h left next (suc n) (commitsWith r commits) count) (λ rs rest. one-more-read h left commits r rs fits rest))
 
   -- ---- the file
 
@@ -200,14 +197,14 @@ module _ (s : List ℕ) (bytes : Bytes s) where
       need-ind (IfTaken (TraceRead s)) _ _ _ tt (λ size.
       need-ind (IfTaken (TraceRead s)) _ _ _ tt (λ kind.
       need-ind (IfTaken (TraceRead s)) _ _ _ tt (λ limits.
-      onTaken-ind (EventsRead s (headerAt s) (headerAt s .records) minBytes 0) (TraceRead s) _ _
-      (events-read (headerAt s) (headerAt s .records) minBytes 1 0 zero-le)
-      (λ es rest. trace-read s (headerAt s) es limits (leb→le _ _ most) (leAt-lt s bytes 2 10) rest)))))))
+      onTaken-ind (EntriesRead (headerAt s) (headerAt s .records) 0) (TraceRead s) _ _
+      (entries-read (headerAt s) (headerAt s .records) minBytes 1 0 zero-le)
+      (λ rs rest. (trace-read (headerAt s) rs limits (leAt-lt s bytes 2 10) rest, leb→le _ _ least, leb→le _ _ most))))))))
 
   -- a trace that was read is well-formed
   pub decoded-well-formed : (t : Trace) → decode s ≡ taken t → WellFormed t
   decoded-well-formed t e = subst (IfTaken (TraceRead s)) e file-read .0
 
-  -- and its own file is as long as the one that was read
-  pub decoded-length : (t : Trace) → decode s ≡ taken t → length (encode t) ≡ length s
-  decoded-length t e = subst (IfTaken (TraceRead s)) e file-read .1
+  -- and its file neither too short nor too long
+  pub decoded-length : (t : Trace) → decode s ≡ taken t → (minBytes ≤ length s) × (length s ≤ maxBytes)
+  decoded-length t e = let read = subst (IfTaken (TraceRead s)) e file-read in (read .1, read .2)

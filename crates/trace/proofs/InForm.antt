@@ -15,11 +15,11 @@ use Rattle.search.proofs.Steps.{need-met, need-unmet}
 use Rattle.search.proofs.Tests.{true-T, lt-is, not-is}
 use Rattle.endian.specs.Endian.{Bytes, leAt}
 use Rattle.store.specs.Limits.{maxCommits, minBytes, maxBytes}
-use Rattle.store.specs.Store.{Event}
 use Rattle.store.specs.Refusal.{Refusal, refuse}
 use Rattle.trace.specs.Result.{Result, refused, taken, onTaken}
+use Rattle.trace.specs.Entry.{Entry}
 use Rattle.trace.specs.Format as Format
-use Rattle.trace.specs.Format.{misshapen, whole, recordAt, commitsWith, onRecord, eventsFrom, headerAt, withinLimits, decode}
+use Rattle.trace.specs.Format.{misshapen, whole, recordAt, commitsWith, onRecord, entriesFrom, headerAt, withinLimits, traceOf, decode}
 use Rattle.trace.specs.Meaning.{meaning, InFormAt, stepOf, headerOf, AllRecordsSay, FormSays}
 use Rattle.trace.specs.declared.records.Record.{Record}
 use Rattle.trace.specs.declared.records.Record.the-variants.{Shift, Commit, Refused}
@@ -56,8 +56,8 @@ follows-onTaken x f = record { refusal = λ r e. rw e refl; value = λ a e. (f a
 
 -- what a step says of its record, in a file s of so many keys
 abbrev StepSays : List ℕ → ℕ → Record → ℕ → Step → Type 0
-StepSays s keys r commits (Next at count) = (e : Event) × (meaning s keys r ≡ whole e at) × (commitsWith e commits ≡ count) × (count ≤ maxCommits)
-StepSays s keys r commits (Stop code) = (n : ℕ) (f : Event → ℕ → ℕ → Result (List Event)) → onRecord (meaning s keys r) n commits f ≡ refused (refuse code n)
+StepSays s keys r commits (Next at count) = (e : Entry) × (meaning s keys r ≡ whole e at) × (commitsWith e commits ≡ count) × (count ≤ maxCommits)
+StepSays s keys r commits (Stop code) = (n : ℕ) (f : Entry → ℕ → ℕ → Result (List Entry)) → onRecord (meaning s keys r) n commits f ≡ refused (refuse code n)
 
 step-says : (s : List ℕ) (keys : ℕ) (r : Record) (commits : ℕ) → commits ≤ maxCommits → StepSays s keys r commits (stepOf r commits)
 unfolding stepOf meaning onRecord need
@@ -76,42 +76,42 @@ module _ (s : List ℕ) (h : Format.Header) (at index commits left : ℕ) (few :
   one-more : 0 < left → left ≡ suc (left - 1)
   one-more some = omega arith
 
-  after-whole : (n next : ℕ) (e : Event) → recordAt s h at ≡ whole e next → commitsWith e commits ≤ maxCommits
-      → Follows (eventsFrom s h n next (suc index) (commitsWith e commits)) (eventsFrom s h (suc n) at index commits)
-  unfolding eventsFrom onRecord need
+  after-whole : (n next : ℕ) (e : Entry) → recordAt s h at ≡ whole e next → commitsWith e commits ≤ maxCommits
+      → Follows (entriesFrom s h n next (suc index) (commitsWith e commits)) (entriesFrom s h (suc n) at index commits)
+  unfolding entriesFrom onRecord need
   after-whole n next e is fits =
-      rw (is, le-leb _ _ fits) (follows-onTaken (eventsFrom s h n next (suc index) (commitsWith e commits)) (λ es. e ∷ es))
+      rw (is, le-leb _ _ fits) (follows-onTaken (entriesFrom s h n next (suc index) (commitsWith e commits)) (λ rs. e ∷ rs))
 
-  after-refusal : (n code : ℕ) → StepSays s (h .keys) r commits (Stop code) → eventsFrom s h (suc n) at index commits ≡ refused (refuse code index)
-  unfolding eventsFrom
+  after-refusal : (n code : ℕ) → StepSays s (h .keys) r commits (Stop code) → entriesFrom s h (suc n) at index commits ≡ refused (refuse code index)
+  unfolding entriesFrom
   after-refusal n code said = rw (← means) (said index _)
 
   -- it was read: the next one starts within the file, and what follows comes to the same
-  pub events-next : (bytes : Bytes s) {next count : ℕ} → 0 < left → Next next count ≡ stepOf r commits
-      → (next ≤ length s) × (count ≤ maxCommits) × Follows (eventsFrom s h (left - 1) next (index + 1) count) (eventsFrom s h left at index commits)
-  events-next bytes {next} {count} some e =
-      let (event, read, counted, fits) = says e in
-      let is : recordAt s h at ≡ whole event next = sym means ∙ read in
-      let rest = after-whole (left - 1) next event is (rw counted fits) in (
-        subst (ReadAt s h at) is (record-read s bytes h at) .2,
+  pub entries-next : (bytes : Bytes s) {next count : ℕ} → 0 < left → Next next count ≡ stepOf r commits
+      → (next ≤ length s) × (count ≤ maxCommits) × Follows (entriesFrom s h (left - 1) next (index + 1) count) (entriesFrom s h left at index commits)
+  entries-next bytes {next} {count} some e =
+      let (entry, read, counted, fits) = says e in
+      let is : recordAt s h at ≡ whole entry next = sym means ∙ read in
+      let rest = after-whole (left - 1) next entry is (rw counted fits) in (
+        subst (ReadAt s h) is (record-read s bytes h at) .1,
         fits,
-        subst (λ n. Follows (eventsFrom s h (left - 1) next (index + 1) count) (eventsFrom s h n at index commits)) (sym (one-more some))
+        subst (λ n. Follows (entriesFrom s h (left - 1) next (index + 1) count) (entriesFrom s h n at index commits)) (sym (one-more some))
             (rw (add-one index, ← counted) rest),
       )
 
   -- it was refused
-  pub events-stop : {code : ℕ} → 0 < left → Stop code ≡ stepOf r commits → eventsFrom s h left at index commits ≡ refused (refuse code index)
-  events-stop {code} some e = ap (λ n. eventsFrom s h n at index commits) (one-more some) ∙ after-refusal (left - 1) code (says e)
+  pub entries-stop : {code : ℕ} → 0 < left → Stop code ≡ stepOf r commits → entriesFrom s h left at index commits ≡ refused (refuse code index)
+  entries-stop {code} some e = ap (λ n. entriesFrom s h n at index commits) (one-more some) ∙ after-refusal (left - 1) code (says e)
 
 -- no record is left
 module _ (s : List ℕ) (h : Format.Header) (at index commits left : ℕ) (none : left ≡ 0) where
-  pub events-end : at ≡ length s → eventsFrom s h left at index commits ≡ taken []
-  unfolding eventsFrom
-  events-end e = rw none (sym (need-met _ _ _ (eq-eqb _ _ e) refl))
+  pub entries-end : at ≡ length s → entriesFrom s h left at index commits ≡ taken []
+  unfolding entriesFrom
+  entries-end e = rw none (sym (need-met _ _ _ (eq-eqb _ _ e) refl))
 
   -- code 5: "bytes left after the counted records"
-  pub bytes-left : at ≢ length s → eventsFrom s h left at index commits ≡ refused (refuse 5 (h .records))
-  unfolding eventsFrom
+  pub bytes-left : at ≢ length s → entriesFrom s h left at index commits ≡ refused (refuse 5 (h .records))
+  unfolding entriesFrom
   bytes-left e = rw none (sym (need-unmet _ _ _ (ne-eqb _ _ e)))
 
 -- ---- records that were read once, read again
@@ -127,41 +127,41 @@ unfolding onTaken
 onTaken-taken (refused r) f e = absurd (not-taken e)
 onTaken-taken (taken a) f e = (a, refl, e)
 
-onRecord-taken : {A : Type 0} (x : Format.Record) (n commits : ℕ) (f : Event → ℕ → ℕ → Result A) {a : A} → onRecord x n commits f ≡ taken a
-    → (e : Event) × (next : ℕ) × (x ≡ whole e next) × (commitsWith e commits ≤ maxCommits) × (f e next (commitsWith e commits) ≡ taken a)
+onRecord-taken : {A : Type 0} (x : Format.Record) (n commits : ℕ) (f : Entry → ℕ → ℕ → Result A) {a : A} → onRecord x n commits f ≡ taken a
+    → (e : Entry) × (next : ℕ) × (x ≡ whole e next) × (commitsWith e commits ≤ maxCommits) × (f e next (commitsWith e commits) ≡ taken a)
 unfolding onRecord
 onRecord-taken (misshapen code) n commits f e = absurd (not-taken e)
-onRecord-taken (whole event next) n commits f e =
-    let (few, rest) = need-taken (leb (commitsWith event commits) maxCommits) _ _ not-taken e in (event, next, refl, leb→le _ _ few, rest)
+onRecord-taken (whole entry next) n commits f e =
+    let (few, rest) = need-taken (leb (commitsWith entry commits) maxCommits) _ _ not-taken e in (entry, next, refl, leb→le _ _ few, rest)
 
--- the first of the records es, which the answer r stands for, and the others
-pub record First (s : List ℕ) (h : Format.Header) (index commits left : ℕ) (r : Record) (es : List Event) : Type 0 where
-  pub event : Event
+-- the first of the records rs, which the answer r stands for, and the others
+pub record First (s : List ℕ) (h : Format.Header) (index commits left : ℕ) (r : Record) (rs : List Entry) : Type 0 where
+  pub entry : Entry
   pub next : ℕ
-  pub others : List Event
-  pub is-first : es ≡ event ∷ others
-  pub read : meaning s (h .keys) r ≡ whole event next
-  pub few-commits : commitsWith event commits ≤ maxCommits
-  pub others-read : eventsFrom s h (left - 1) next (index + 1) (commitsWith event commits) ≡ taken others
+  pub others : List Entry
+  pub is-first : rs ≡ entry ∷ others
+  pub read : meaning s (h .keys) r ≡ whole entry next
+  pub few-commits : commitsWith entry commits ≤ maxCommits
+  pub others-read : entriesFrom s h (left - 1) next (index + 1) (commitsWith entry commits) ≡ taken others
 
-module _ (s : List ℕ) (h : Format.Header) (at index commits left : ℕ) {es : List Event} (some : 0 < left) (read : eventsFrom s h left at index commits ≡ taken es) where
-  first-whole : (e : Event) × (next : ℕ) × (recordAt s h at ≡ whole e next) × (commitsWith e commits ≤ maxCommits)
-      × (onTaken (eventsFrom s h (left - 1) next (suc index) (commitsWith e commits)) (λ others. taken (e ∷ others)) ≡ taken es)
-  unfolding eventsFrom
+module _ (s : List ℕ) (h : Format.Header) (at index commits left : ℕ) {rs : List Entry} (some : 0 < left) (read : entriesFrom s h left at index commits ≡ taken rs) where
+  first-whole : (e : Entry) × (next : ℕ) × (recordAt s h at ≡ whole e next) × (commitsWith e commits ≤ maxCommits)
+      × (onTaken (entriesFrom s h (left - 1) next (suc index) (commitsWith e commits)) (λ others. taken (e ∷ others)) ≡ taken rs)
+  unfolding entriesFrom
   first-whole =
       let more : left ≡ suc (left - 1) = omega arith in
-      onRecord-taken (recordAt s h at) index commits _ (ap (λ n. eventsFrom s h n at index commits) (sym more) ∙ read)
+      onRecord-taken (recordAt s h at) index commits _ (ap (λ n. entriesFrom s h n at index commits) (sym more) ∙ read)
 
   -- the first of the records is in form
   pub first-in-form : InFormAt s at (h .keys) (h .clients)
-  first-in-form = let (event, next, is, few, rest) = first-whole in record { records = h .records; event = event; next = next; read = is }
+  first-in-form = let (entry, next, is, few, rest) = first-whole in record { records = h .records; entry = entry; next = next; read = is }
 
 module _ (s : List ℕ) (h : Format.Header) (at index commits left : ℕ) (r : Record) (means : meaning s (h .keys) r ≡ recordAt s h at) where
-  first-of : {es : List Event} (event : Event) (next : ℕ) (others : List Event) → recordAt s h at ≡ whole event next → commitsWith event commits ≤ maxCommits
-      → eventsFrom s h (left - 1) next (suc index) (commitsWith event commits) ≡ taken others → taken (event ∷ others) ≡ taken es
-      → First s h index commits left r es
-  first-of event next others is few others-read all = record {
-    event = event;
+  first-of : {rs : List Entry} (entry : Entry) (next : ℕ) (others : List Entry) → recordAt s h at ≡ whole entry next → commitsWith entry commits ≤ maxCommits
+      → entriesFrom s h (left - 1) next (suc index) (commitsWith entry commits) ≡ taken others → taken (entry ∷ others) ≡ taken rs
+      → First s h index commits left r rs
+  first-of entry next others is few others-read all = record {
+    entry = entry;
     next = next;
     others = others;
     is-first = sym (taken-injective all);
@@ -170,11 +170,11 @@ module _ (s : List ℕ) (h : Format.Header) (at index commits left : ℕ) (r : R
     others-read = rw (add-one index) others-read;
   }
 
-  pub events-first : {es : List Event} → 0 < left → eventsFrom s h left at index commits ≡ taken es → First s h index commits left r es
-  events-first some read =
-      let (event, next, is, few, rest) = first-whole s h at index commits left some read in
-      let (others, others-read, all) = onTaken-taken (eventsFrom s h (left - 1) next (suc index) (commitsWith event commits)) _ rest in
-      first-of event next others is few others-read all
+  pub entries-first : {rs : List Entry} → 0 < left → entriesFrom s h left at index commits ≡ taken rs → First s h index commits left r rs
+  entries-first some read =
+      let (entry, next, is, few, rest) = first-whole s h at index commits left some read in
+      let (others, others-read, all) = onTaken-taken (entriesFrom s h (left - 1) next (suc index) (commitsWith entry commits)) _ rest in
+      first-of entry next others is few others-read all
 
 -- ---- the file
 
@@ -196,7 +196,7 @@ pub record Taken (s : List ℕ) (h : Header) : Type 0 where
 
 -- then the file is what its records are
 decode-records : (s : List ℕ) (h : Header) → Taken s h
-    → decode s ≡ onTaken (eventsFrom s (headerOf h) (h .records) minBytes 1 0) (λ es. taken (record { keys = h .keys; clients = h .clients; events = es }))
+    → decode s ≡ onTaken (entriesFrom s (headerOf h) (h .records) minBytes 1 0) (λ rs. taken (traceOf (headerOf h) rs))
 unfolding decode
 decode-records s h t =
     sym
@@ -206,7 +206,7 @@ decode-records s h t =
     (need-met _ _ _ (t .size)
     (need-met _ _ _ (t .kind)
     (need-met _ _ _ (ap withinLimits (sym (t .is-header)) ∙ t .limits)
-    (ap (λ (g : Format.Header). onTaken (eventsFrom s g (g .records) minBytes 1 0) (λ es. taken (record { keys = g .keys; clients = g .clients; events = es }))) (t .is-header))))))))
+    (ap (λ (g : Format.Header). onTaken (entriesFrom s g (g .records) minBytes 1 0) (λ rs. taken (traceOf g rs))) (t .is-header))))))))
 
 -- and the answer about the records is one about the file
 pub form-says : {s : List ℕ} {h : Header} (r : Form) → AllRecordsSay s h r → Taken s h → FormSays s r
@@ -220,7 +220,7 @@ form-says {s} {h} (Whole g) said t =
       some-client = some-client;
       few-clients = few-clients;
       few-records = t .few-records;
-      events = said .1;
+      entries = said .1;
       read = said .2;
       decoded = decode-records s h t ∙ rw (said .2) refl;
     })

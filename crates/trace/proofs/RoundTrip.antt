@@ -2,7 +2,7 @@
 -- a place of a file. Assumes nothing.
 use Prim.Native.Nat.{ℕ, suc, _+_, _*_, _^_, _≤_, _<_}
 use mathlib.Core.Path.{_≡_, refl, sym, ap, ap₂, _∙_, subst, fun-ext}
-use mathlib.Core.List.{List, [], _∷_}
+use mathlib.Core.List.{List, [], _∷_, map}
 use native.Mathlib.Omega.{arith}
 use native.Mathlib.Decide.{decLt}
 use lib.Dec.{T, ltb, lit<, lt→ltb}
@@ -15,15 +15,17 @@ use Rattle.endian.specs.Endian.{leAt, leBytes}
 use Rattle.endian.proofs.Laws.{length-leBytes}
 use Rattle.endian.proofs.Stands.{Stands, stands-whole, stands-at, stands-within, stands-first, stands-second, stands-behind, stands-piece, read-fitting, read-first}
 use Rattle.store.specs.Limits.{maxKeys, maxClients, maxCommits, minBytes, maxBytes}
-use Rattle.store.specs.Store.{Client, View, Access, read, write, Operation, Commit, Event, shift, commit}
+use Rattle.store.specs.Store.{Client, View, opening, Access, read, write, Operation, Commit, Event, shift, commit}
 use Rattle.store.proofs.Sound.{FitsView}
 use Rattle.store.proofs.Run.{commitsIn}
 use Rattle.trace.specs.Result.{Result, taken, onTaken}
-use Rattle.trace.specs.Format.{Header, Trace, viewAt, accessOf, operationAt, operationsAt, rankAt, operationFits, operationsFit, whole, shiftLength, shiftAt, commitLength, commitOf, commitAt, recordAt, commitsWith, onRecord, eventsFrom, headerAt, withinLimits, decode}
+use Rattle.trace.specs.Entry.{Entry, shifting, committing, every, eventsOf}
+use Rattle.trace.specs.Format.{Header, Trace, viewAt, accessOf, operationAt, operationsAt, rankAt, operationFits, operationsFit, whole, shiftLength, shiftAt, commitLength, commitOf, commitAt, recordAt, commitsWith, onRecord, entriesFrom, headerAt, withinLimits, traceOf, decode}
 use Rattle.trace.specs.Encode.{accessNumber, operationBytes, operationsBytes, viewBytes, eventBytes, eventsBytes, fileBody, encode}
 use Rattle.trace.proofs.Sizes.{length-operationBytes, length-operationsBytes, eventLength, length-eventBytes, eventsLength, length-fileBody, length-encode}
 use Rattle.trace.proofs.Tests.{operationFits-is, withinLimits-is}
-use Rattle.trace.proofs.WellFormed.{rank, FitsOperation, Rise, accessNumber-le-one, rising-length, FitsShift, FitsCommit, FitsEvent, FitsEvents, commitsWith-commitsIn, WellFormed}
+use Rattle.trace.proofs.WellFormed.{rank, FitsOperation, Rise, accessNumber-le-one, rising-length, FitsShift, FitsCommit, FitsEvent, FitsEvents, WellFormed}
+use Rattle.trace.proofs.Entries.{inFull, event-inFull, eventsOf-inFull, commitsWith-commitsIn}
 
 -- the header of a trace
 abbrev headerOf : Trace → Header
@@ -86,7 +88,7 @@ module _ (s : List ℕ) where
 
   -- a record of kind 2
   shift-back : (h : Header) (at : ℕ) (d : Client) (u : View) → h .keys ≤ maxKeys → h .clients ≤ maxClients → FitsShift (h .keys) (h .clients) d u
-      → Stands s at (eventBytes (h .keys) (shift d u)) → recordAt s h at ≡ whole (shift d u) (at + shiftLength (h .keys))
+      → Stands s at (eventBytes (h .keys) (shift d u)) → recordAt s h at ≡ whole (inFull (shift d u)) (at + shiftLength (h .keys))
   unfolding eventBytes recordAt shiftAt
   shift-back h at d u few-keys few-clients fits stands =
       let within = stands-within stands in
@@ -109,11 +111,11 @@ module _ (s : List ℕ) where
       ∙ need-yes _ _ _ (yes-leb ends)
       ∙ need-yes _ _ _ (yes-ltb below)
       ∙ need-yes _ _ _ (yes-eqb spare)
-      ∙ ap₂ (λ e v. whole (shift e v) (at + shiftLength (h .keys))) client view
+      ∙ ap₂ (λ d v. whole (shifting d (every v)) (at + shiftLength (h .keys))) client view
 
   -- a record of kind 3
   commit-back : (h : Header) (at : ℕ) (c : Commit) → h .keys ≤ maxKeys → h .clients ≤ maxClients → FitsCommit (h .keys) (h .clients) c
-      → Stands s at (eventBytes (h .keys) (commit c)) → recordAt s h at ≡ whole (commit c) (at + commitLength (h .keys) (length (c .operations)))
+      → Stands s at (eventBytes (h .keys) (commit c)) → recordAt s h at ≡ whole (inFull (commit c)) (at + commitLength (h .keys) (length (c .operations)))
   unfolding eventBytes recordAt commitAt commitOf
   commit-back h at c few-keys few-clients fits stands =
       let m = length (c .operations) in
@@ -148,11 +150,11 @@ module _ (s : List ℕ) where
       ∙ need-yes _ _ _ (yes-leb ends)
       ∙ need-yes _ _ _ (yes-ltb below)
       ∙ need-yes _ _ _ fit
-      ∙ (λ i. whole (commit (record { client = client i; session = session i; operations = operations i; viewAfter = view i })) (at + commitLength (h .keys) m))
+      ∙ (λ i. whole (committing (client i) (session i) (operations i) (every (view i))) (at + commitLength (h .keys) m))
 
   -- a record of either kind, and where the next one starts
   event-back : (h : Header) (at : ℕ) (e : Event) → h .keys ≤ maxKeys → h .clients ≤ maxClients → FitsEvent (h .keys) (h .clients) e
-      → Stands s at (eventBytes (h .keys) e) → recordAt s h at ≡ whole e (at + eventLength (h .keys) e)
+      → Stands s at (eventBytes (h .keys) e) → recordAt s h at ≡ whole (inFull e) (at + eventLength (h .keys) e)
   event-back h at (shift d u) few-keys few-clients fits stands = shift-back h at d u few-keys few-clients fits stands
   event-back h at (commit c) few-keys few-clients fits stands = commit-back h at c few-keys few-clients fits stands
 
@@ -161,30 +163,31 @@ module _ (s : List ℕ) where
   -- the records up to the end of the file
   events-back : (h : Header) (es : List Event) (at n commits : ℕ) → h .keys ≤ maxKeys → h .clients ≤ maxClients → FitsEvents (h .keys) (h .clients) es
       → commits + commitsIn es ≤ maxCommits → at + eventsLength (h .keys) es ≡ length s → Stands s at (eventsBytes (h .keys) es)
-      → eventsFrom s h (length es) at n commits ≡ taken es
-  unfolding eventsFrom eventsBytes eventsLength onRecord onTaken
+      → entriesFrom s h (length es) at n commits ≡ taken (map inFull es)
+  unfolding entriesFrom eventsBytes eventsLength onRecord onTaken
   events-back h [] at n commits few-keys few-clients fits few ends stands =
       let done : at ≡ length s = omega arith in
       need-yes _ _ _ (yes-eqb done)
   events-back h (e ∷ es) at n commits few-keys few-clients fits few ends stands =
       let size = eventLength (h .keys) e in
-      let total = commitsWith-commitsIn e es commits in
-      let count : commitsWith e commits ≤ maxCommits = omega arith in
+      let anywhere = opening (h .keys) in
+      let total = commitsWith-commitsIn anywhere (inFull e) es commits ∙ ap (λ (x : Event). commits + commitsIn (x ∷ es)) (event-inFull anywhere e) in
+      let count : commitsWith (inFull e) commits ≤ maxCommits = omega arith in
       let behind = stands-at (ap (λ k. at + k) (length-eventBytes (h .keys) e)) (stands-second (eventBytes (h .keys) e) (eventsBytes (h .keys) es) stands) in
       let first = event-back h at e few-keys few-clients (fits .0) (stands-first (eventBytes (h .keys) e) (eventsBytes (h .keys) es) stands) in
-      let others = events-back h es (at + size) (suc n) (commitsWith e commits) few-keys few-clients (fits .1) (omega arith) (omega arith) behind in
-      let go-on : Event → ℕ → ℕ → Result (List Event) = λ e next c. onTaken (eventsFrom s h (length es) next (suc n) c) (λ rest. taken (e ∷ rest)) in
+      let others = events-back h es (at + size) (suc n) (commitsWith (inFull e) commits) few-keys few-clients (fits .1) (omega arith) (omega arith) behind in
+      let go-on : Entry → ℕ → ℕ → Result (List Entry) = λ r next c. onTaken (entriesFrom s h (length es) next (suc n) c) (λ rest. taken (r ∷ rest)) in
       ap (λ r. onRecord r n commits go-on) first
       ∙ need-yes _ _ _ (yes-leb count)
-      ∙ ap (λ r. onTaken r (λ rest. taken (e ∷ rest))) others
+      ∙ ap (λ x. onTaken x (λ rest. taken (inFull e ∷ rest))) others
 
   -- ---- the file
 
   -- what the first twelve bytes say, and that the records stand behind them
-  header-back : (t : Trace) → WellFormed t → Stands s 0 (encode t)
+  header-back : (t : Trace) → WellFormed t → length (encode t) ≤ maxBytes → Stands s 0 (encode t)
       → (leAt s 0 4 ≡ length (encode t)) × (leAt s 4 2 ≡ 8) × (leAt s 6 2 ≡ 1) × (headerAt s ≡ headerOf t) × Stands s minBytes (eventsBytes (t .keys) (t .events))
   unfolding encode fileBody
-  header-back t w stands =
+  header-back t w short stands =
       let size = length-encode t in
       let body-size = length-fileBody t in
       let from-header = stands-behind 4 _ _ 4 refl stands in
@@ -202,32 +205,34 @@ module _ (s : List ℕ) where
         stands-behind 2 _ _ 12 refl from-count,
       )
 
-  -- the trace that a header and events make
-  trace-back : (t : Trace) → headerAt s ≡ headerOf t → eventsFrom s (headerOf t) (length (t .events)) minBytes 1 0 ≡ taken (t .events)
-      → onTaken (eventsFrom s (headerAt s) (headerAt s .records) minBytes 1 0) (λ es. taken (record { keys = headerAt s .keys; clients = headerAt s .clients; events = es })) ≡ taken t
+  -- the trace that a header and records make, where the records mean its events
+  trace-back : (t : Trace) (rs : List Entry) → eventsOf (opening (t .keys)) rs ≡ t .events → headerAt s ≡ headerOf t
+      → entriesFrom s (headerOf t) (length (t .events)) minBytes 1 0 ≡ taken rs
+      → onTaken (entriesFrom s (headerAt s) (headerAt s .records) minBytes 1 0) (λ rs. taken (traceOf (headerAt s) rs)) ≡ taken t
   unfolding onTaken
-  trace-back t header events =
-      (λ i. onTaken (eventsFrom s (header i) (header i .records) minBytes 1 0) (λ es. taken (record { keys = header i .keys; clients = header i .clients; events = es })))
-      ∙ ap (λ r. onTaken r (λ es. taken (record { keys = t .keys; clients = t .clients; events = es }))) events
+  trace-back t rs means header entries =
+      (λ i. onTaken (entriesFrom s (header i) (header i .records) minBytes 1 0) (λ rs. taken (traceOf (header i) rs)))
+      ∙ ap (λ x. onTaken x (λ rs. taken (traceOf (headerOf t) rs))) entries
+      ∙ ap (λ es. taken (record { keys = t .keys; clients = t .clients; events = es })) means
 
   -- a file that is nothing but the file of the trace
-  file-back : (t : Trace) → WellFormed t → length s ≡ length (encode t) → Stands s 0 (encode t) → decode s ≡ taken t
+  file-back : (t : Trace) → WellFormed t → length (encode t) ≤ maxBytes → length s ≡ length (encode t) → Stands s 0 (encode t) → decode s ≡ taken t
   unfolding decode
-  file-back t w same stands =
+  file-back t w short same stands =
       let size = length-encode t in
-      let (field, header-size, kind, header, from-events) = header-back t w stands in
+      let (field, header-size, kind, header, from-events) = header-back t w short stands in
       let least : minBytes ≤ length s = omega arith in
       let most : length s ≤ maxBytes = omega arith in
       let limits = withinLimits-is (headerOf t) .1 (w .some-key, w .few-keys, w .some-client, w .few-clients) in
-      let events = events-back (headerOf t) (t .events) minBytes 1 0 (w .few-keys) (w .few-clients) (w .fitting) (omega arith) (omega arith) from-events in
+      let entries = events-back (headerOf t) (t .events) minBytes 1 0 (w .few-keys) (w .few-clients) (w .fitting) (omega arith) (omega arith) from-events in
       need-yes _ _ _ (yes-leb least)
       ∙ need-yes _ _ _ (yes-leb most)
       ∙ need-yes _ _ _ (yes-eqb (field ∙ sym same))
       ∙ need-yes _ _ _ (yes-eqb header-size)
       ∙ need-yes _ _ _ (yes-eqb kind)
       ∙ need-yes _ _ _ (subst (λ h. T (withinLimits h)) (sym header) limits)
-      ∙ trace-back t header events
+      ∙ trace-back t (map inFull (t .events)) (eventsOf-inFull (opening (t .keys)) (t .events)) header entries
 
--- the file of a well-formed trace reads back as that trace
-pub decode-encode : (t : Trace) → WellFormed t → decode (encode t) ≡ taken t
-decode-encode t w = file-back (encode t) t w refl (stands-whole (encode t))
+-- the file of a well-formed trace, if it is not too long, reads back as that trace
+pub decode-encode : (t : Trace) → WellFormed t → length (encode t) ≤ maxBytes → decode (encode t) ≡ taken t
+decode-encode t w short = file-back (encode t) t w short refl (stands-whole (encode t))

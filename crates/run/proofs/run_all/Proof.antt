@@ -5,7 +5,7 @@ use mathlib.Core.Path.{_≡_, subst}
 use mathlib.Core.List.{List}
 use native.Mathlib.Omega.{arith}
 use lib.ListN.{length}
-use Rattle.store.specs.Store.{Event}
+use Rattle.trace.specs.Entry.{Entry}
 use Rattle.run.specs.Ran.{Starts}
 use Rattle.run.specs.OneRecord.{NextWithin}
 use Rattle.run.proofs.OneRecord.{record-readable}
@@ -17,8 +17,8 @@ abbrev Inv-loop : tie.InvT-loop
 Inv-loop file n clients records versions₀ keys₀ views₀ seen₀ sessions₀ commits₀ links₀ verdicts₀ values₀ fresh₀ at₀ number₀ made₀ left₀ versions keys views seen sessions commits links verdicts values fresh at number made left =
     (at ≤ length file) × (number + left ≡ records + 1)
     × ((length verdicts ≡ 40) × (length values ≡ 32) × (length fresh ≡ 16) × (length versions ≡ 2048) × (length keys ≡ 32) × (length views ≡ 256) × (length seen ≡ 16) × (length sessions ≡ 48) × (length commits ≡ 192) × (length links ≡ 160))
-    × ((es : List Event) → Starts file n clients records es versions₀ keys₀ views₀ seen₀ sessions₀ commits₀ links₀ verdicts₀ values₀
-    → Stands file n clients records es left at number made versions keys views seen sessions commits links verdicts values)
+    × ((rs : List Entry) → Starts file n clients records rs versions₀ keys₀ views₀ seen₀ sessions₀ commits₀ links₀ verdicts₀ values₀
+    → Stands file n clients records rs left at number made versions keys views seen sessions commits links verdicts values)
 
 abbrev μ-loop : tie.MeasureT-loop
 μ-loop file n clients records versions₀ keys₀ views₀ seen₀ sessions₀ commits₀ links₀ verdicts₀ values₀ fresh₀ at₀ number₀ made₀ left₀ versions keys views seen sessions commits links verdicts values fresh at number made left = left

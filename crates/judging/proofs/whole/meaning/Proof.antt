@@ -7,7 +7,7 @@ use lib.ListN.{length, length-replicate}
 use denote.Ref.{now}
 use Rattle.endian.specs.Endian.{Bytes}
 use Rattle.judging.proofs.Answered.{meaningless-answer}
-use Rattle.judging.proofs.InForm.{traceOf, starts, few-made, finished, ran-done, ran-refused}
+use Rattle.judging.proofs.InForm.{traceIn, starts, few-made, finished, ran-done, ran-refused}
 use borrow.Author.Needs.{needs}
 use Rattle.judging.proofs.whole.meaning.Statement.{statement}
 use Rattle.judging.proofs.whole.meaning.Tie as tie
@@ -64,7 +64,7 @@ run-all-requires c κs =
             ap length (o .ensures .1 .1 .1 .1) ∙ length-replicate {A = ℕ} 192 0,
             ap length (o .ensures .1 .1 .1 .2) ∙ length-replicate {A = ℕ} 160 0,
           ),
-          (w .events, starts w (o .ensures .0) (o .ensures .1 .0) (o .ensures .1 .1 .0 .0) (o .ensures .1 .1 .0 .1) (o .ensures .1 .1 .1 .0) (o .ensures .1 .1 .1 .1) (o .ensures .1 .1 .1 .2) refl refl),
+          (w .entries, starts w (o .ensures .0) (o .ensures .1 .0) (o .ensures .1 .1 .0 .0) (o .ensures .1 .1 .0 .1) (o .ensures .1 .1 .1 .0) (o .ensures .1 .1 .1 .1) (o .ensures .1 .1 .1 .2) refl refl),
         ),
       ),
     )
@@ -93,7 +93,7 @@ finish-requires c κs =
     let w = start .pre .0 in
     let b : Bytes (now (start .args .file)) = λ i. c .before .before .before .before .before .before .before .before .before .before .before .before .before .before .before .before .before .before .before .before .before .before .before .before .before .before .before .before .before .before .before .before .before .before .before .before .before .before .shared-slice-known .given i .fits in
     let o = c .before .before .before .before .before .before .before .before .before .before .before .before .before .before .before .before .before .before .before .before .before .before .before .before .before .before .before .before .before .before .before .before .before .before .before .before .opening in
-    let says = c .before .before .before .before .before .before .before .before .before .before .before .before .before .before .before .before .before .before .run-all .ensures (w .events) (starts w (o .ensures .0) (o .ensures .1 .0) (o .ensures .1 .1 .0 .0) (o .ensures .1 .1 .0 .1) (o .ensures .1 .1 .1 .0) (o .ensures .1 .1 .1 .1) (o .ensures .1 .1 .1 .2) refl refl) in
+    let says = c .before .before .before .before .before .before .before .before .before .before .before .before .before .before .before .before .before .before .run-all .ensures (w .entries) (starts w (o .ensures .0) (o .ensures .1 .0) (o .ensures .1 .1 .0 .0) (o .ensures .1 .1 .0 .1) (o .ensures .1 .1 .1 .0) (o .ensures .1 .1 .1 .1) (o .ensures .1 .1 .1 .2) refl refl) in
     let e = c .before .before .before .before .before .before .ran2 .given .1 in
     ((search needs, search needs, search needs, search needs), (w .few-keys, few-made b w (ran-done _ _ _ _ _ _ _ _ _ _ _ says e)))
 
@@ -103,9 +103,9 @@ returns c =
     let w = start .pre .0 in
     let b : Bytes (now (start .args .file)) = λ i. c .before .before .before .before .before .before .before .before .before .before .before .before .before .before .before .before .before .before .before .before .before .before .before .before .before .before .before .before .before .before .before .before .before .shared-slice-known .given i .fits in
     let o = c .before .before .before .before .before .before .before .before .before .before .before .before .before .before .before .before .before .before .before .before .before .before .before .before .before .before .before .before .before .before .before .opening in
-    let says = c .before .before .before .before .before .before .before .before .before .before .before .before .before .run-all .ensures (w .events) (starts w (o .ensures .0) (o .ensures .1 .0) (o .ensures .1 .1 .0 .0) (o .ensures .1 .1 .0 .1) (o .ensures .1 .1 .1 .0) (o .ensures .1 .1 .1 .1) (o .ensures .1 .1 .1 .2) refl refl) in
+    let says = c .before .before .before .before .before .before .before .before .before .before .before .before .before .run-all .ensures (w .entries) (starts w (o .ensures .0) (o .ensures .1 .0) (o .ensures .1 .1 .0 .0) (o .ensures .1 .1 .0 .1) (o .ensures .1 .1 .1 .0) (o .ensures .1 .1 .1 .1) (o .ensures .1 .1 .1 .2) refl refl) in
     let e = c .before .ran .given .1 in
-    let a = meaningless-answer (now (start .args .file)) (now (start .args .buffer)) (traceOf w) _ (w .decoded) (ran-refused _ _ _ _ _ _ _ _ _ _ _ says e) in
+    let a = meaningless-answer (now (start .args .file)) (now (start .args .buffer)) (traceIn w) _ (w .decoded) (ran-refused _ _ _ _ _ _ _ _ _ _ _ says e) in
     (sym (a .said), sym (a .drawn))
 
 same-length : tie.Need-same-length
@@ -117,9 +117,9 @@ returns-2 c =
     let w = start .pre .0 in
     let b : Bytes (now (start .args .file)) = λ i. c .before .before .before .before .before .before .before .before .before .before .before .before .before .before .before .before .before .before .before .before .before .before .before .before .before .before .before .before .before .before .before .before .before .before .before .before .before .before .before .before .before .shared-slice-known .given i .fits in
     let o = c .before .before .before .before .before .before .before .before .before .before .before .before .before .before .before .before .before .before .before .before .before .before .before .before .before .before .before .before .before .before .before .before .before .before .before .before .before .before .before .opening in
-    let says = c .before .before .before .before .before .before .before .before .before .before .before .before .before .before .before .before .before .before .before .before .before .run-all .ensures (w .events) (starts w (o .ensures .0) (o .ensures .1 .0) (o .ensures .1 .1 .0 .0) (o .ensures .1 .1 .0 .1) (o .ensures .1 .1 .1 .0) (o .ensures .1 .1 .1 .1) (o .ensures .1 .1 .1 .2) refl refl) in
+    let says = c .before .before .before .before .before .before .before .before .before .before .before .before .before .before .before .before .before .before .before .before .before .run-all .ensures (w .entries) (starts w (o .ensures .0) (o .ensures .1 .0) (o .ensures .1 .1 .0 .0) (o .ensures .1 .1 .0 .1) (o .ensures .1 .1 .1 .0) (o .ensures .1 .1 .1 .1) (o .ensures .1 .1 .1 .2) refl refl) in
     let e = c .before .before .before .before .before .before .before .before .before .ran2 .given .1 in
-    c .before .before .finish .ensures (now (start .args .file)) (traceOf w) (finished b w (ran-done _ _ _ _ _ _ _ _ _ _ _ says e))
+    c .before .before .finish .ensures (now (start .args .file)) (traceIn w) (finished b w (ran-done _ _ _ _ _ _ _ _ _ _ _ says e))
 
 pub meaning-spec : {M : Type 1} → statement M
 meaning-spec =

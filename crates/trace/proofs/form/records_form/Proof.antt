@@ -8,15 +8,15 @@ use native.Mathlib.Omega.{arith}
 use lib.ListN.{length}
 use denote.Ref.{now}
 use Rattle.store.specs.Limits.{maxCommits, minBytes}
-use Rattle.trace.specs.Format.{eventsFrom}
+use Rattle.trace.specs.Format.{entriesFrom}
 use Rattle.trace.specs.Meaning.{headerOf, AllRecordsSay, stopCode}
-use Rattle.trace.proofs.InForm.{Follows, follows-itself, follows-then, events-next, events-stop, events-end, bytes-left}
+use Rattle.trace.proofs.InForm.{Follows, follows-itself, follows-then, entries-next, entries-stop, entries-end, bytes-left}
 use Rattle.trace.proofs.form.records_form.Statement.{statement}
 use Rattle.trace.proofs.form.records_form.Tie as tie
 
 abbrev Inv-loop : tie.InvT-loop
 Inv-loop s h at₀ index₀ commits₀ left₀ at index commits left =
-    (at ≤ length s) × (commits ≤ maxCommits) × (index + left ≡ h .records + 1) × Follows (eventsFrom s (headerOf h) left at index commits) (eventsFrom s (headerOf h) (h .records) minBytes 1 0)
+    (at ≤ length s) × (commits ≤ maxCommits) × (index + left ≡ h .records + 1) × Follows (entriesFrom s (headerOf h) left at index commits) (entriesFrom s (headerOf h) (h .records) minBytes 1 0)
 
 abbrev μ-loop : tie.MeasureT-loop
 μ-loop s h at₀ index₀ commits₀ left₀ at index commits left = left
@@ -46,7 +46,7 @@ returns c =
     let a = l .before .before .args in
     let t = c .before .enum-told .given in
     let stop =
-    events-stop (now (a .s)) (headerOf (a .h)) (l .loop .at) (l .loop .index) (l .loop .commits) (l .loop .left) (l .loop .inv .1) _
+    entries-stop (now (a .s)) (headerOf (a .h)) (l .loop .at) (l .loop .index) (l .loop .commits) (l .loop .left) (l .loop .inv .1) _
     (c .before .before .before .before .record-from .ensures .0 (a .h .records)) (omega arith) (sym (t .1) ∙ c .before .before .before .step-of .ensures) in
     l .loop .inv .3 .refusal _ (stop ∙ ap (λ k. refused (refuse k (l .loop .index))) (sym (c .stop-code .ensures ∙ ap stopCode (t .1))))
 
@@ -64,7 +64,7 @@ loop-again c =
     let l = c .before .before .before .before .before .before in
     let a = l .before .before .args in
     let (within, few, follows) =
-    events-next (now (a .s)) (headerOf (a .h)) (l .loop .at) (l .loop .index) (l .loop .commits) (l .loop .left) (l .loop .inv .1) _
+    entries-next (now (a .s)) (headerOf (a .h)) (l .loop .at) (l .loop .index) (l .loop .commits) (l .loop .left) (l .loop .inv .1) _
     (c .before .before .before .before .record-from .ensures .0 (a .h .records)) (λ i. l .before .shared-slice-known .given i .fits) (omega arith)
     (sym (c .before .step .given .1) ∙ c .before .before .before .step-of .ensures) in
     (within, few, omega arith, follows-then follows (l .loop .inv .3))
@@ -75,7 +75,7 @@ returns-2 c = c .before .before .loop .inv .3 .refusal _ (bytes-left _ _ _ _ _ _
 
 returns-3 : tie.Need-returns-3 Inv-loop μ-loop
 unfolding AllRecordsSay
-returns-3 c = let (events, read) = c .before .before .loop .inv .3 .value _ (events-end _ _ _ _ _ _ (omega arith) (omega arith)) in (refl, events, read)
+returns-3 c = let (events, read) = c .before .before .loop .inv .3 .value _ (entries-end _ _ _ _ _ _ (omega arith) (omega arith)) in (refl, events, read)
 
 pub records-form-spec : {M : Type 1} → statement M
 records-form-spec =
