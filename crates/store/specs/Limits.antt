@@ -1,5 +1,5 @@
 -- "Sizes of a rack" (01): the limits of a store, named once. Assumes nothing.
-use Prim.Native.Nat.{ℕ}
+use Prim.Native.Nat.{ℕ, _+_}
 
 -- "Keys 1 to 16"
 abbrev pub maxKeys : ℕ
@@ -12,6 +12,14 @@ maxClients = 16
 -- "commits 0 to 63"
 abbrev pub maxCommits : ℕ
 maxCommits = 63
+
+-- a commit's number is below this: the opening transaction's is 0, and those of the commits follow
+abbrev pub numbers : ℕ
+numbers = maxCommits + 1
+
+-- a key has at most so many versions: the opening one, and one by each commit
+abbrev pub perKey : ℕ
+perKey = maxCommits + 1
 
 -- "file 12 to 65,536 bytes"
 abbrev pub minBytes : ℕ
