@@ -7,3 +7,4 @@ pub mod ByClause
 pub mod Searches
 pub mod Noted
 pub mod Judged
+pub mod Words

@@ -23,19 +23,22 @@ unfoldable pub numbersOf : List Clause → Set
 numbersOf [] = 0
 numbersOf (x ∷ xs) = insert (clauseNumber x) (numbersOf xs)
 
--- ---- the array of verdicts: four tables of ten, in report order
+-- ---- the array of verdicts: four tables of the levels, in report order
 
 abbrev pub clausePlace : ℕ → ℕ
 clausePlace i = i
 
 abbrev pub recordPlace : ℕ → ℕ
-recordPlace i = 10 + i
+recordPlace i = length levels + i
 
 abbrev pub keyPlace : ℕ → ℕ
-keyPlace i = 20 + i
+keyPlace i = 2 * length levels + i
 
 abbrev pub versionPlace : ℕ → ℕ
-versionPlace i = 30 + i
+versionPlace i = 3 * length levels + i
+
+abbrev pub verdictsLength : ℕ
+verdictsLength = 4 * length levels
 
 -- the four words of a level: the clause is 0 while it has not failed
 unfoldable pub KeepsVerdict : List ℕ → ℕ → Option Failure → Type 0
@@ -45,7 +48,7 @@ KeepsVerdict verdicts i (some f) =
     × (getD verdicts (keyPlace i) 0 ≡ f .key) × (getD verdicts (versionPlace i) 0 ≡ f .version)
 
 pub record KeepsVerdicts (fs : Level → Option Failure) (verdicts : List ℕ) : Type 0 where
-  pub room : length verdicts ≡ 4 * length levels
+  pub room : length verdicts ≡ verdictsLength
   pub verdict : (i : ℕ) → i < length levels → KeepsVerdict verdicts i (fs (levelAt i))
 
 -- ---- the clauses that a commit fails
