@@ -10,16 +10,19 @@ use Rattle.sets.proofs.Laws.{has-none, has-large, has-highest, highest-most}
 use Rattle.dependencies.proofs.Growth.{OwnWrite, OwnRead, Grown}
 use Rattle.store.specs.Store.{Key, Version, View, Store, Configuration, openingStore, opening, count, nextNumber, Commit}
 use Rattle.store.specs.Update.{reads, writes, newest, update, viewBefore, storeAfter}
-use Rattle.store.proofs.Updated.{at-same, at-other, Wrote, Read, wrote-update, read-update}
-use Rattle.store.proofs.Sound.{Sound, FitsCommit, LegalCommit, opening-first, sound-opening}
-use Rattle.store.proofs.Links.{history, held, reads-written, appears-stored, stored-below}
+use Rattle.store.specs.History.{Wrote, Read, history, held}
+use Rattle.store.proofs.Updated.{at-same, at-other, wrote-update, read-update}
+use Rattle.store.specs.Sound.{Sound, WithinKeys}
+use Rattle.store.specs.Legal.{LegalCommit}
+use Rattle.store.proofs.Sound.{opening-first, sound-opening}
+use Rattle.store.proofs.Links.{reads-written, appears-stored, stored-below}
 
 -- the new commit stands in the table with its client
 pub new-client : (g : Configuration) (c : Commit) → storeAfter g c .clientOf (nextNumber (g .store)) ≡ c .client
 unfolding update
 new-client g c = at-same (nextNumber (g .store)) (c .client) (g .store .clientOf)
 
-module _ (g : Configuration) (c : Commit) (h : Sound g) (f : FitsCommit (g .store .keys) c) (l : LegalCommit g c) where
+module _ (g : Configuration) (c : Commit) (h : Sound g) (f : WithinKeys (g .store .keys) c) (l : LegalCommit g c) where
   abbrev s : Store
   s = g .store
 

@@ -12,7 +12,8 @@ use Rattle.search.specs.Choose.{orElse}
 use Rattle.search.proofs.Tests.{some-none, orElse-none}
 use Rattle.store.specs.Store.{CommitNumber, Configuration, opening, nextNumber, Commit, Event, shift, commit}
 use Rattle.store.specs.Update.{update, viewBefore, step, final, firstAlong}
-use Rattle.store.proofs.Sound.{Sound, FitsCommit, sound-opening, sound-update}
+use Rattle.store.specs.Sound.{Sound, WithinKeys}
+use Rattle.store.proofs.Sound.{sound-opening, sound-update}
 use Rattle.store.proofs.Run.{LegalRun, done, shifts, commits, sound-shifts, sound-commits, Each, each-both, each-map, final-commits}
 use Rattle.trace.specs.Format.{Trace}
 use Rattle.levels.specs.Level.{Level, MR, MW, RYW, WFR, CC, PSI, CP, SI, SER, clausesOf, Failure, failsClauses, failsEvent, firstFailure}
@@ -52,7 +53,7 @@ module _ (l : Level) where
   abbrev fails-from : ℕ → Configuration → List Event → ℕ
   fails-from n g es = failingCommit (failure-from n g es) (final g es .store .commits)
 
-  no-failure-is : (n : ℕ) (g : Configuration) (c : Commit) → Sound g → FitsCommit (g .store .keys) c
+  no-failure-is : (n : ℕ) (g : Configuration) (c : Commit) → Sound g → WithinKeys (g .store .keys) c
       → (failure-at n g c ≡ none) ↔ Passes l g c
   no-failure-is n g c h f =
       fails-none n (g .store) (viewBefore g c) c (h .store) (h .views (c .client))

@@ -10,11 +10,15 @@ use lib.ListN.{length}
 use Rattle.search.specs.Choose.{isSome}
 use Rattle.search.proofs.Tests.{isSome-some}
 use Rattle.sets.specs.Set.{below}
+use Rattle.store.specs.Limits.{numbers}
 use Rattle.store.specs.Store.{Key, VersionNumber, CommitNumber, Value, Version, View, Store, Configuration, count, version, nextNumber, read, write, Commit, Event, shift, commit}
 use Rattle.store.specs.Update.{valueOf, reads, newest, noteRead, append, atNumber, update, viewBefore, storeAfter, step, final}
-use Rattle.store.proofs.Updated.{at-same, Wrote, count-update, untouched}
-use Rattle.store.proofs.Sound.{IsView, SoundStore, Sound, Appears, FitsView, FitsCommit, LegalShift, LegalCommit, sound-update}
-use Rattle.store.proofs.Links.{held}
+use Rattle.store.specs.History.{Wrote, Appears, held}
+use Rattle.store.proofs.Updated.{at-same, count-update, untouched}
+use Rattle.store.specs.View.{IsView, FitsView}
+use Rattle.store.specs.Sound.{SoundStore, Sound, WithinKeys}
+use Rattle.store.specs.Legal.{LegalShift, LegalCommit}
+use Rattle.store.proofs.Sound.{sound-update}
 use Rattle.store.proofs.Run.{FitsAll, LegalRun, done, shifts, commits, sound-shifts, sound-commits, Each, commitsIn}
 use Rattle.levels.specs.Level.{Level, SER, clausesOf}
 use Rattle.levels.proofs.Levels.{Passes, every-clause, all-say}
@@ -48,7 +52,7 @@ update-same s u v c e = λ i. record {
 pub record ReplaysCommit (g r : Configuration) (c : Commit) : Type 0 where
   pub shift-fits : FitsView (r .store .keys) (fullView (r .store))
   pub shift-legal : LegalShift r (c .client) (fullView (r .store))
-  pub commit-fits : FitsCommit (r .store .keys) (fullCommit r c)
+  pub commit-fits : WithinKeys (r .store .keys) (fullCommit r c)
   pub commit-legal : LegalCommit (step r (fullShift r c)) (fullCommit r c)
   pub passes : (l : Level) → Passes l (step r (fullShift r c)) (fullCommit r c)
   pub sound : Sound (replayed r c)
@@ -59,7 +63,7 @@ view-fits : {s : Store} {u : View} → IsView s u → FitsView (s .keys) u
 view-fits v = record { word = v .word; beyond = v .beyond }
 
 module _ (g r : Configuration) (c : Commit) (same : g .store ≡ r .store) (sound-g : Sound g) (sound-r : Sound r)
-    (fits-g : FitsCommit (g .store .keys) c) (legal : LegalCommit g c) (ser : Passes SER g c) (room-g : nextNumber (g .store) < 64) where
+    (fits-g : WithinKeys (g .store .keys) c) (legal : LegalCommit g c) (ser : Passes SER g c) (room-g : nextNumber (g .store) < numbers) where
   abbrev s : Store
   s = r .store
 
@@ -70,11 +74,11 @@ module _ (g r : Configuration) (c : Commit) (same : g .store ≡ r .store) (soun
   abbrev shifted : Configuration
   shifted = step r (fullShift r c)
 
-  fits : FitsCommit (s .keys) c
-  fits = subst (λ (x : Store). FitsCommit (x .keys) c) same fits-g
+  fits : WithinKeys (s .keys) c
+  fits = subst (λ (x : Store). WithinKeys (x .keys) c) same fits-g
 
-  room : nextNumber s < 64
-  room = subst (λ (x : Store). nextNumber x < 64) same room-g
+  room : nextNumber s < numbers
+  room = subst (λ (x : Store). nextNumber x < numbers) same room-g
 
   -- the shift is legal
   full : IsView s (fullView s)
@@ -113,7 +117,7 @@ module _ (g r : Configuration) (c : Commit) (same : g .store ≡ r .store) (soun
   unfolding step update
   full-after = full-view (storeAfter shifted (fullCommit r c)) sound-after (omega (arith, room))
 
-  fits-commit : FitsCommit (s .keys) (fullCommit r c)
+  fits-commit : WithinKeys (s .keys) (fullCommit r c)
   unfolding step update
   fits-commit = record { read-keys = fits .read-keys; write-keys = fits .write-keys; after = view-fits full-after }
 
@@ -173,7 +177,7 @@ pub record Replays (g r : Configuration) (es : List Event) : Type 0 where
   pub same-store : final g es .store ≡ final r (replayEvents r es) .store
 
 -- from equal stores on, by the records in turn
-pub replays : (g r : Configuration) (es : List Event) → g .store ≡ r .store → Sound g → Sound r → nextNumber (g .store) + commitsIn es ≤ 64
+pub replays : (g r : Configuration) (es : List Event) → g .store ≡ r .store → Sound g → Sound r → nextNumber (g .store) + commitsIn es ≤ numbers
     → LegalRun g es → Each (Passes SER) g es → Replays g r es
 unfolding replayEvents final commitsIn step update
 replays g r [] same h h′ few done p = record { fits = tt; legal = done; passes = λ l. tt; same-store = same }

@@ -19,21 +19,24 @@ use Rattle.store.specs.Store.{Key, Client, CommitNumber, View, Configuration, o
 use Rattle.store.specs.Update.{writes, atNumber, viewBefore, storeAfter, step, final}
 use Rattle.store.specs.Links.{LinkKind, isRW}
 use Rattle.store.proofs.Updated.{at-same, at-other}
-use Rattle.store.proofs.Sound.{Sound, FitsCommit, LegalShift, LegalCommit, sound-opening}
-use Rattle.store.proofs.Links.{history, held, link-means}
+use Rattle.store.specs.Sound.{Sound, WithinKeys}
+use Rattle.store.specs.Legal.{LegalShift, LegalCommit}
+use Rattle.store.proofs.Sound.{sound-opening}
+use Rattle.store.specs.History.{history, held}
+use Rattle.store.proofs.Links.{link-means}
 use Rattle.store.proofs.Opening.{opening-history}
 use Rattle.store.proofs.Run.{run-keeps}
 use Rattle.trace.specs.Format.{Trace}
 use Rattle.levels.specs.Level.{SI, SER}
 use Rattle.levels.proofs.Levels.{Passes}
 use Rattle.answer.specs.Answer.{finalStore}
-use Rattle.answer.specs.Demand3.{Accepts, Dependency}
+use Rattle.answer.specs.Demand3.{Accepts, LinkOf}
 use Rattle.answer.proofs.Taken.{Taken, sound-final}
 use Rattle.answer.proofs.Orders.{accepts-each}
 use Rattle.answer.proofs.Graph.{new-client, commit-grows}
 
 -- the versions that each client's view holds
-abbrev views-of : Configuration → Client → D.View
+abbrev views-of : Configuration → Client → D.Held
 views-of g d = held (g .views d)
 
 -- a client's view replaced by one that holds at least as much: all views hold at least as much as before
@@ -71,7 +74,7 @@ unfolding step
 dependency-shift g d u i = i
 
 -- a legal commit on a sound configuration, and the histories before and after it
-module _ (g : Configuration) (c : Commit) (h : Sound g) (f : FitsCommit (g .store .keys) c) (l : LegalCommit g c) where
+module _ (g : Configuration) (c : Commit) (h : Sound g) (f : WithinKeys (g .store .keys) c) (l : LegalCommit g c) where
   abbrev H : History
   H = history (g .store)
 
@@ -106,7 +109,7 @@ module _ (g : Configuration) (c : Commit) (h : Sound g) (f : FitsCommit (g .stor
 -- ---- a taken trace
 
 module _ (t : Trace) (h : Taken t) where
-  final-link-means : (kind : LinkKind) (a b : CommitNumber) → Dependency (finalStore t) kind a b → LinkThat (history (finalStore t)) (isRW kind) a b
+  final-link-means : (kind : LinkKind) (a b : CommitNumber) → LinkOf (finalStore t) kind a b → LinkThat (history (finalStore t)) (isRW kind) a b
   final-link-means = link-means (finalStore t) (sound-final t h .store)
 
   snapshot-graph : Accepts SI t → SnapshotGraph (final (opening (t .keys)) (t .events))
@@ -121,11 +124,11 @@ module _ (t : Trace) (h : Taken t) where
 
   -- "If snapshot isolation passes, every ring of dependencies in the store has two read-to-overwrite links side by side."
   pub si-rings : Accepts SI t → (kind : LinkKind) (kinds : List LinkKind) (a : CommitNumber)
-      → Ring (Dependency (finalStore t)) kind kinds a → T (sideBySideInRing isRW kind kinds)
+      → Ring (LinkOf (finalStore t)) kind kinds a → T (sideBySideInRing isRW kind kinds)
   si-rings accepts kind kinds a =
-      rings-have-RW-side-by-side (history (finalStore t)) isRW (Dependency (finalStore t)) final-link-means (snapshot-graph accepts .acyclic)
+      rings-have-RW-side-by-side (history (finalStore t)) isRW (LinkOf (finalStore t)) final-link-means (snapshot-graph accepts .acyclic)
 
   -- "If serialisability passes, there is no ring;"
-  pub ser-rings : Accepts SER t → (kind : LinkKind) (kinds : List LinkKind) (a : CommitNumber) → ¬ Ring (Dependency (finalStore t)) kind kinds a
+  pub ser-rings : Accepts SER t → (kind : LinkKind) (kinds : List LinkKind) (a : CommitNumber) → ¬ Ring (LinkOf (finalStore t)) kind kinds a
   ser-rings accepts kind kinds a =
-      no-rings (history (finalStore t)) isRW (Dependency (finalStore t)) final-link-means (dependencies-acyclic accepts)
+      no-rings (history (finalStore t)) isRW (LinkOf (finalStore t)) final-link-means (dependencies-acyclic accepts)

@@ -1,7 +1,8 @@
 -- What is known of a taken trace, whatever its bytes were: its records are in form and each is legal in its turn. Assumes nothing.
 use Rattle.store.specs.Store.{opening}
 use Rattle.store.specs.Update.{final}
-use Rattle.store.proofs.Sound.{Sound, sound-opening}
+use Rattle.store.specs.Sound.{Sound}
+use Rattle.store.proofs.Sound.{sound-opening}
 use Rattle.store.proofs.Run.{FitsAll, LegalRun, sound-run}
 use Rattle.trace.specs.Format.{Trace}
 

@@ -28,8 +28,8 @@ abbrev pub Accepts : Level → Trace → Type 0
 Accepts l t = verdict l t ≡ none
 
 -- the links of a kind in a store; "A dependency is an SO, WR, WW or RW link"
-abbrev pub Dependency : Store → LinkKind → CommitNumber → CommitNumber → Type 0
-Dependency s kind a b = T (linked s kind a b)
+abbrev pub LinkOf : Store → LinkKind → CommitNumber → CommitNumber → Type 0
+LinkOf s kind a b = T (linked s kind a b)
 
 -- what holds of a trace r that is the replay of a trace t
 pub record SameOutcome (t r : Trace) : Type 0 where
@@ -54,9 +54,9 @@ pub record Claim (t : Trace) : Type 0 where
   pub earliest-si : min (failsAt SER t) (min (failsAt MR t) (failsAt RYW t)) ≤ failsAt SI t
   -- "If snapshot isolation passes, every ring of dependencies in the store has two read-to-overwrite links side by side."
   pub si-rings : Accepts SI t → (kind : LinkKind) (kinds : List LinkKind) (a : CommitNumber)
-      → Ring (Dependency (finalStore t)) kind kinds a → T (sideBySideInRing isRW kind kinds)
+      → Ring (LinkOf (finalStore t)) kind kinds a → T (sideBySideInRing isRW kind kinds)
   -- "If serialisability passes, there is no ring;"
-  pub ser-rings : Accepts SER t → (kind : LinkKind) (kinds : List LinkKind) (a : CommitNumber) → ¬ Ring (Dependency (finalStore t)) kind kinds a
+  pub ser-rings : Accepts SER t → (kind : LinkKind) (kinds : List LinkKind) (a : CommitNumber) → ¬ Ring (LinkOf (finalStore t)) kind kinds a
   -- "and the same commits in the same order, each made from a full view and left with one, are taken too, give the same store
   -- and the same image byte for byte, and pass all ten."
   pub ser-replay : Accepts SER t → (r : Trace) × (accept (replay t) ≡ taken r) × SameOutcome t r

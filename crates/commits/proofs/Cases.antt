@@ -20,17 +20,21 @@ use Rattle.store.specs.Update.{update, step, viewBefore, storeAfter}
 use Rattle.store.specs.Missing.{Place}
 use Rattle.store.specs.Links.{stored}
 use Rattle.store.specs.Refusal.{Refusal, refuse, refuseKey, refusePlace, notAbove, oldNumber, wrongRead, badMask, halfHeld, stray, refusesEvent}
-use Rattle.store.proofs.Sound.{SoundStore, Sound, Appears, FitsView, view-of-grown-store}
+use Rattle.store.specs.Sound.{SoundStore, Sound}
+use Rattle.store.specs.History.{Appears, history, held}
+use Rattle.store.specs.View.{FitsView}
+use Rattle.store.proofs.Sound.{view-of-grown-store}
 use Rattle.store.proofs.Legal.{stored-is, appears-lt}
-use Rattle.store.proofs.Links.{history, held, appears-stored}
-use Rattle.growth.proofs.Made.{Made, keys-after, sound-after, number-after}
+use Rattle.store.proofs.Links.{appears-stored}
+use Rattle.growth.specs.Made.{Made}
+use Rattle.growth.proofs.Made.{keys-after, sound-after, number-after}
 use Rattle.growth.proofs.Ordered.{ordered-commit}
 use Rattle.growth.proofs.Views.{holds-kept}
 use Rattle.state.specs.Keeps.{IsSet, CommitOf, KeepsSessions, KeepsViews}
 use Rattle.state.proofs.Sets.{isSet-as}
 use Rattle.views.specs.Rules.{StoreAndView}
 use Rattle.views.specs.Rows.{Kept}
-use Rattle.shifts.specs.Outcomes.{Masks}
+use Rattle.views.specs.Viewed.{NewMasks}
 use Rattle.shifts.proofs.Replaced.{commit-replaces}
 use Rattle.commits.specs.Codes.{earlyRefusal, lateRefusal, EarlyGiven, LateGiven}
 
@@ -129,7 +133,7 @@ module _ (g : Configuration) (c : Commit) (values versions keys fresh views seen
   pub late-holds : IsSet (getD seen client 0) (D.Holds (history (g .store)) (held (viewBefore g c)))
   late-holds = subst (λ (d : ℕ). IsSet (getD seen client 0) (D.Holds (history (g .store)) (held (g .views d)))) (sym (l .client-is)) (l .in-views .holds client b)
 
-  pub late-masks : Masks (storeAfter g c) (viewBefore g c) (c .viewAfter) n versions keys views (maxKeys * client) (getD seen client 0) fresh
+  pub late-masks : NewMasks (storeAfter g c) (viewBefore g c) (c .viewAfter) n versions keys views (maxKeys * client) (getD seen client 0) fresh
   late-masks = record {
     arrays = record {
       number = keys-after (g .store) (viewBefore g c) c (l .made) ∙ l .keys-are;

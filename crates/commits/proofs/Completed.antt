@@ -17,10 +17,11 @@ use Rattle.store.specs.Limits.{maxKeys, maxClients, maxCommits}
 use Rattle.store.specs.Store.{View, Store, Configuration, nextNumber, Commit, commit}
 use Rattle.store.specs.Update.{update, step, viewBefore, storeAfter}
 use Rattle.store.specs.Refusal.{refuse, refusePlace, oldNumber, wrongRead}
-use Rattle.store.proofs.Sound as Store
+use Rattle.store.specs.Sound as Store
 use Rattle.store.proofs.Legal.{newer-is}
-use Rattle.store.proofs.Links.{history, held}
-use Rattle.growth.proofs.Made.{Made, sound-after}
+use Rattle.store.specs.History.{history, held}
+use Rattle.growth.specs.Made.{Made}
+use Rattle.growth.proofs.Made.{sound-after}
 use Rattle.trace.proofs.Fits.{commit-fits}
 use Rattle.levels.specs.Level.{Level, Failure, failsEvent, failsClauses, clausesOf}
 use Rattle.state.specs.Keeps.{IsSet, KeepsVersions, KeepsKeys, KeepsViews, KeepsMasks, KeepsOperations, Keeps}
@@ -36,8 +37,8 @@ use Rattle.commits.specs.Records.{Recorded}
 module _ (g : Configuration) (c : Commit) (clients n : ℕ) (versions keys views seen sessions commits links values fresh : List ℕ) (client : ℕ) (ranks : Set)
     (r : Recorded g c clients n versions keys views seen sessions commits links) (own : c .client ≡ client)
     (o : KeepsOperations c ranks values) (f : KeepsMasks n (c .viewAfter) fresh) (i : ℕ) (early : earlyRefusal i (g .store) (viewBefore g c) c ≡ none) where
-  fits : Store.FitsCommit (g .store .keys) c
-  fits = subst (λ (k : ℕ). Store.FitsCommit k c) (sym (r .keys-are)) (commit-fits n clients c (r .fits))
+  fits : Store.WithinKeys (g .store .keys) c
+  fits = subst (λ (k : ℕ). Store.WithinKeys k c) (sym (r .keys-are)) (commit-fits n clients c (r .fits))
 
   below : client < maxClients
   below = let x = r .fits .client-below in let y = r .few-clients in omega arith

@@ -9,9 +9,9 @@ use Rattle.store.specs.Limits.{maxKeys, maxCommits}
 use Rattle.store.specs.Store.{View, Store, Configuration, nextNumber, Commit}
 use Rattle.store.specs.Update.{viewBefore, storeAfter}
 use Rattle.store.specs.Refusal.{Refusal, refuse, refuseKey, refusePlace, oldNumber, wrongRead, badMask, halfHeld, stray}
-use Rattle.store.proofs.Sound.{Sound}
-use Rattle.growth.proofs.Made.{Made}
-use Rattle.growth.proofs.Ordered.{Ordered}
+use Rattle.store.specs.Sound.{Sound}
+use Rattle.growth.specs.Made.{Made}
+use Rattle.growth.specs.Ordered.{Ordered}
 use Rattle.state.specs.Keeps.{KeepsSessions, KeepsVersions, KeepsKeys, KeepsViews, KeepsMasks, KeepsOperations}
 use Rattle.operations.specs.Given.{Given}
 

@@ -8,10 +8,10 @@ use Rattle.sets.specs.Set.{Set}
 use Rattle.store.specs.Limits.{maxClients, maxCommits}
 use Rattle.store.specs.Store.{Configuration, nextNumber, Commit}
 use Rattle.store.specs.Update.{viewBefore}
-use Rattle.store.proofs.Sound.{Sound}
-use Rattle.growth.proofs.Ordered.{Ordered}
+use Rattle.store.specs.Sound.{Sound}
+use Rattle.growth.specs.Ordered.{Ordered}
 use Rattle.trace.specs.Format.{viewAt, operationsAt}
-use Rattle.trace.proofs.WellFormed.{FitsCommit}
+use Rattle.trace.specs.WellFormed.{FitsCommit}
 use Rattle.state.specs.Keeps.{KeepsVersions, KeepsViews, KeepsSessions, KeepsMasks, KeepsOperations, Keeps}
 use Rattle.shifts.specs.Outcomes.{outcomeOf}
 use Rattle.commits.specs.Codes.{earlyRefusal}

@@ -11,7 +11,7 @@ ghost use lib.Dec.{T};
 ghost use lib.ListN.{length};
 ghost use Rattle.store.specs.Store.{Configuration, nextNumber, Commit, commit};
 ghost use Rattle.store.specs.Update.{writes, step, viewBefore};
-ghost use Rattle.growth.proofs.Made.{Writes};
+ghost use Rattle.growth.specs.Made.{Writes};
 ghost use Rattle.state.specs.Keeps.{IsSet, KeepsOperations, KeepsViews};
 ghost use Rattle.views.specs.Own.{AddsOwn};
 ghost use Rattle.shifts.specs.declared.Outcome.the-variants.{Taken};

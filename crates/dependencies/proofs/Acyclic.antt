@@ -9,9 +9,7 @@ use mathlib.Core.Path.{_≡_, sym, ap, _∙_, subst}
 use mathlib.Core.Logic.{_⊎_, inl, inr, _≢_}
 use Rattle.relations.specs.Relation.{alone, followed, Plus}
 use Rattle.relations.proofs.Walks.{Star, stay, then, Acyclic, star-link, plus-map, closed-ends, cut-ring}
-use Rattle.dependencies.specs.History.{History, Stored, as-writer, as-reader, SO, session-order, write-read, write-write, RW, read-write}
-use Rattle.dependencies.specs.History.{PlainLink, by-SO, by-WR, by-WW, Dependency, SnapshotStep}
-use Rattle.dependencies.specs.History.{View, Holds, UpdateAtomic, SnapshotIsolation, Serialisable}
+use Rattle.dependencies.specs.History.{History, Stored, as-writer, as-reader, SO, session-order, write-read, write-write, RW, read-write, PlainLink, by-SO, by-WR, by-WW, Dependency, SnapshotStep, Held, Holds, UpdateAtomic, SnapshotIsolation, Serialisable}
 use Rattle.dependencies.proofs.Growth.{OwnWrite, OwnRead, SameClient, Grown, Owns}
 
 unless-right : {A B : Type 0} → A ⊎ B → ¬ B → A
@@ -22,7 +20,7 @@ unless-left : {A B : Type 0} → A ⊎ B → ¬ A → B
 unless-left (inl x) n = absurd (n x)
 unless-left (inr y) n = y
 
-module _ (H H′ : History) (U : View) (t : ℕ) (writes : ℕ → Type 0) (g : Grown H H′ U t writes) where
+module _ (H H′ : History) (U : Held) (t : ℕ) (writes : ℕ → Type 0) (g : Grown H H′ U t writes) where
   -- ---- what t changes
 
   t-not-stored : ¬ Stored H t

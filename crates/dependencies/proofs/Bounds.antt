@@ -3,8 +3,7 @@
 use Prim.Native.Nat.{ℕ, _<_}
 use mathlib.Core.Logic.{inl, inr}
 use Rattle.relations.proofs.Closure.{Below, thenMaybe-below}
-use Rattle.dependencies.specs.History.{History, Stored, as-writer, as-reader, SO, session-order, WR, write-read, WW, write-write, RW, read-write}
-use Rattle.dependencies.specs.History.{PlainLink, by-SO, by-WR, by-WW, PrefixStep, SnapshotStep}
+use Rattle.dependencies.specs.History.{History, Stored, as-writer, as-reader, SO, session-order, WR, write-read, WW, write-write, RW, read-write, PlainLink, by-SO, by-WR, by-WW, PrefixStep, SnapshotStep}
 
 -- every commit of the store has a number below n
 abbrev pub StoredBelow : ℕ → History → Type 0

@@ -3,7 +3,7 @@
 use Prim.Native.Nat.{ℕ, _<_, _≤_}
 use mathlib.Core.Path.{_≡_}
 use mathlib.Core.Logic.{_⊎_}
-use Rattle.dependencies.specs.History.{History, Stored, View, Holds, AllOf}
+use Rattle.dependencies.specs.History.{History, Stored, Held, Holds, AllOf}
 use Rattle.dependencies.proofs.Bounds.{StoredBelow}
 use Rattle.dependencies.proofs.Implications.{ReadsWritten}
 
@@ -12,7 +12,7 @@ abbrev pub OwnWrite : History → (ℕ → Type 0) → ℕ → ℕ → ℕ → �
 OwnWrite H writes t a k i = (a ≡ t) × writes k × ((b j : ℕ) → H .wrote b k j → j < i)
 
 -- a is t; version i is the newest of the key that the view holds
-abbrev pub OwnRead : View → ℕ → ℕ → ℕ → ℕ → Type 0
+abbrev pub OwnRead : Held → ℕ → ℕ → ℕ → ℕ → Type 0
 OwnRead U t a k i = (a ≡ t) × U k i × ((j : ℕ) → U k j → j ≤ i)
 
 -- a stands in the store before t, and t's client made it
@@ -20,7 +20,7 @@ abbrev pub SameClient : History → History → ℕ → ℕ → Type 0
 SameClient H H′ t a = Stored H a × (0 < a) × (H .clientOf a ≡ H′ .clientOf t)
 
 -- H′ is H after commit t, made on the view U, which writes the keys `writes`
-pub record Grown (H H′ : History) (U : View) (t : ℕ) (writes : ℕ → Type 0) : Type 0 where
+pub record Grown (H H′ : History) (U : Held) (t : ℕ) (writes : ℕ → Type 0) : Type 0 where
   -- t is a new number
   pub stored-before : StoredBelow t H
   -- commits before t keep their client and session number
@@ -40,6 +40,6 @@ pub record Grown (H H′ : History) (U : View) (t : ℕ) (writes : ℕ → Type 
   pub session-grows : (a : ℕ) → SameClient H H′ t a → H .sessionOf a < H′ .sessionOf t
 
 -- the view holds what the client's earlier commits wrote and read (clauses 1 and 2, kept commit by commit)
-pub record Owns (H H′ : History) (U : View) (t : ℕ) : Type 0 where
+pub record Owns (H H′ : History) (U : Held) (t : ℕ) : Type 0 where
   pub own-writes : (a : ℕ) → SameClient H H′ t a → AllOf H U a
   pub own-reads : (a : ℕ) → SameClient H H′ t a → (k i : ℕ) → H .read a k i → U k i

@@ -4,8 +4,7 @@ use Prim.Native.Nat.{ℕ}
 use mathlib.Core.Logic.{_⊎_, inl, inr, _↔_}
 use Rattle.relations.specs.Relation.{ThenMaybe, alone, followed, Plus, one, more}
 use Rattle.relations.proofs.Walks.{plus-map, thenMaybe-map}
-use Rattle.dependencies.specs.History.{History, SO, WR, write-read, WW, RW, by-SO, by-WR, by-WW, PrefixStep, SnapshotStep}
-use Rattle.dependencies.specs.History.{View, Closed, MonotonicWrites, WriteFollowsReads, UpdateAtomic, ConsistentPrefix, SnapshotIsolation, Serialisable}
+use Rattle.dependencies.specs.History.{History, SO, WR, write-read, WW, RW, by-SO, by-WR, by-WW, PrefixStep, SnapshotStep, Held, Closed, MonotonicWrites, WriteFollowsReads, UpdateAtomic, ConsistentPrefix, SnapshotIsolation, Serialisable}
 
 -- every version that was read was written by some commit
 abbrev pub ReadsWritten : History → Type 0
@@ -52,7 +51,7 @@ module _ (H : History) where
   snapshot-prefix a b (inr (inl s)) = snapshotStep-is a b .0 (inr (inl s))
   snapshot-prefix a b (inr (inr s)) = snapshotStep-is a b .0 (inr (inr (alone s)))
 
-module _ (H : History) (U : View) where
+module _ (H : History) (U : Held) where
   -- ---- for any relation
 
   -- a view that is closed under a relation is closed under what it contains

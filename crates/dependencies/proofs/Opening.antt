@@ -5,8 +5,7 @@ use mathlib.Core.Path.{_≡_}
 use mathlib.Core.Logic.{inl, inr}
 use Rattle.relations.specs.Relation.{alone, followed}
 use Rattle.relations.proofs.Walks.{Acyclic, no-links-acyclic}
-use Rattle.dependencies.specs.History.{History, Stored, as-writer, as-reader, session-order, write-read, write-write, read-write}
-use Rattle.dependencies.specs.History.{PlainLink, by-SO, by-WR, by-WW, Dependency, SnapshotStep}
+use Rattle.dependencies.specs.History.{History, Stored, as-writer, as-reader, session-order, write-read, write-write, read-write, PlainLink, by-SO, by-WR, by-WW, Dependency, SnapshotStep}
 
 -- "At the start each list is version 0: value 0, writer the opening transaction (number 0), no readers"
 pub record Opening (H : History) : Type 0 where

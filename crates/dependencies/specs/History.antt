@@ -57,41 +57,41 @@ SnapshotStep H = ThenMaybe (PlainLink H) (RW H)
 -- ---- clauses
 
 -- `U k i`: the view holds version i of key k
-abbrev pub View : Type 1
-View = ℕ → ℕ → Type 0
+abbrev pub Held : Type 1
+Held = ℕ → ℕ → Type 0
 
 -- "u holds a version by t"
-abbrev pub Holds : History → View → ℕ → Type 0
+abbrev pub Holds : History → Held → ℕ → Type 0
 Holds H U t = (k : ℕ) × (i : ℕ) × U k i × H .wrote t k i
 
 -- it holds every "versions by" t
-abbrev pub AllOf : History → View → ℕ → Type 0
+abbrev pub AllOf : History → Held → ℕ → Type 0
 AllOf H U t = (k i : ℕ) → H .wrote t k i → U k i
 
 -- clauses 3, 6 and 7: "if u holds a version by t, versions by any t' with t' to t in" R
-abbrev pub Closed : (ℕ → ℕ → Type 0) → History → View → Type 0
+abbrev pub Closed : (ℕ → ℕ → Type 0) → History → Held → Type 0
 Closed R H U = (a b : ℕ) → Holds H U b → R a b → AllOf H U a
 
 -- 3, MW: "if u holds a version by t, versions by any t' with t' SO t"
-abbrev pub MonotonicWrites : History → View → Type 0
+abbrev pub MonotonicWrites : History → Held → Type 0
 MonotonicWrites H = Closed (SO H) H
 
 -- 4, WFR: "if u holds a version by t, each version read by t or by a t' with t' SO t"
-abbrev pub WriteFollowsReads : History → View → Type 0
+abbrev pub WriteFollowsReads : History → Held → Type 0
 WriteFollowsReads H U = (b : ℕ) → Holds H U b → ((k i : ℕ) → H .read b k i → U k i) × ((a k i : ℕ) → SO H a b → H .read a k i → U k i)
 
 -- 5, UA: "every version of each key written"
-abbrev pub UpdateAtomic : History → View → (ℕ → Type 0) → Type 0
+abbrev pub UpdateAtomic : History → Held → (ℕ → Type 0) → Type 0
 UpdateAtomic H U writes = (a k i : ℕ) → writes k → H .wrote a k i → U k i
 
 -- 6, CP: "if u holds a version by t, versions by any t' with t' to t in (SO;RW? or WR;RW? or WW)+"
-abbrev pub ConsistentPrefix : History → View → Type 0
+abbrev pub ConsistentPrefix : History → Held → Type 0
 ConsistentPrefix H = Closed (Plus (PrefixStep H)) H
 
 -- 7, SI: "as 6, with (SO;RW? or WR;RW? or WW;RW?)+"
-abbrev pub SnapshotIsolation : History → View → Type 0
+abbrev pub SnapshotIsolation : History → Held → Type 0
 SnapshotIsolation H = Closed (Plus (SnapshotStep H)) H
 
 -- 8, SER: "every version of every key"
-abbrev pub Serialisable : History → View → Type 0
+abbrev pub Serialisable : History → Held → Type 0
 Serialisable H U = (a : ℕ) → AllOf H U a

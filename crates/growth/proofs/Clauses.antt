@@ -16,24 +16,17 @@ use Rattle.dependencies.specs.History.{SO, write-read, PrefixStep, SnapshotStep
 use Rattle.store.specs.Store.{Key, CommitNumber, View, Store, count, version, nextNumber, Commit}
 use Rattle.store.specs.Update.{writes}
 use Rattle.store.specs.Links.{wrote, somewhere, holds}
-use Rattle.store.proofs.Updated.{Wrote, Read}
-use Rattle.store.proofs.Sound.{IsView, SoundStore}
+use Rattle.store.specs.History.{Wrote, Read, history, held}
+use Rattle.store.specs.View.{IsView}
+use Rattle.store.specs.Sound.{SoundStore}
 use Rattle.store.proofs.Missing.{somewhere-is}
-use Rattle.store.proofs.Links.{history, held, holds-means}
-use Rattle.growth.proofs.Made.{Writer}
-use Rattle.growth.proofs.Links.{FromWrite}
-use Rattle.growth.proofs.Sessions.{ReadUpTo}
-use Rattle.growth.proofs.Views.{Lacking, Full, held-writer}
-
--- ---- the commits that a clause wants
-
--- clauses 3, 6 and 7: from a R leads to a commit of which the view holds a version
-abbrev pub LeadsToHeld : Store → View → (ℕ → ℕ → Type 0) → CommitNumber → Type 0
-LeadsToHeld s u R a = (t : CommitNumber) × Holds (history s) (held u) t × R a t
-
--- a commit of W is lacking
-abbrev pub LacksOneOf : Store → View → (CommitNumber → Type 0) → Type 0
-LacksOneOf s u W = (a : CommitNumber) × W a × Lacking s u a
+use Rattle.store.proofs.Links.{holds-means}
+use Rattle.growth.specs.Made.{Writer}
+use Rattle.growth.specs.Links.{FromWrite}
+use Rattle.growth.specs.Sessions.{ReadUpTo}
+use Rattle.growth.specs.Views.{Lacking, Full}
+use Rattle.growth.proofs.Views.{held-writer}
+use Rattle.growth.specs.Clauses.{LeadsToHeld, LacksOneOf}
 
 module _ (s : Store) (u : View) (v : IsView s u) where
   -- a version is held where its writer is not lacking

@@ -8,31 +8,11 @@ use lib.Dec.{T}
 use Rattle.dependencies.specs.History.{Stored, as-writer, as-reader, SO, session-order, WR, write-read, WW, write-write, RW, read-write}
 use Rattle.store.specs.Store.{Key, VersionNumber, CommitNumber, View, Store, count, version, nextNumber, Commit}
 use Rattle.store.specs.Update.{reads, writes, newest, update}
-use Rattle.store.proofs.Updated.{Wrote, Read}
-use Rattle.store.proofs.Links.{history, appears-stored}
-use Rattle.growth.proofs.Made.{Made, WriterOf, ReaderOf, CommitBy, Operates, read-exists, wrote-after, read-after, stored-after, stored-not-new, client-kept, client-new, session-kept, session-new, after}
-
--- ---- what leads into the new commit, and out of it
-
--- a is an earlier commit of its client
-abbrev pub FromSession : Store → Commit → CommitNumber → Type 0
-FromSession s c a = Operates c × CommitBy (history s) (c .client) a
-
--- a wrote a version that it reads
-abbrev pub FromRead : Store → View → Commit → CommitNumber → Type 0
-FromRead s u c a = (k : Key) × T (reads c k) × (version s k (newest u k) .writer ≡ a)
-
--- a wrote a version of a key that it writes
-abbrev pub FromWrite : Store → Commit → CommitNumber → Type 0
-FromWrite s c a = (k : Key) × T (writes c k) × WriterOf (history s) k a
-
--- a read a version of a key that it writes
-abbrev pub FromReader : Store → Commit → CommitNumber → Type 0
-FromReader s c a = (k : Key) × T (writes c k) × ReaderOf (history s) k a
-
--- b wrote a later version of a key than the one that it reads
-abbrev pub ToLater : Store → View → Commit → CommitNumber → Type 0
-ToLater s u c b = (k : Key) × T (reads c k) × ((j : VersionNumber) × (newest u k < j) × Wrote s b k j)
+use Rattle.store.specs.History.{Wrote, Read, history}
+use Rattle.store.proofs.Links.{appears-stored}
+use Rattle.growth.specs.Made.{Made, WriterOf, ReaderOf, CommitBy, Operates}
+use Rattle.growth.proofs.Made.{read-exists, wrote-after, read-after, stored-after, stored-not-new, client-kept, client-new, session-kept, session-new, after}
+use Rattle.growth.specs.Links.{FromSession, FromRead, FromWrite, FromReader, ToLater}
 
 -- such commits stand in the store before
 pub from-reader-stored : (s : Store) (c : Commit) {a : CommitNumber} → FromReader s c a → Stored (history s) a

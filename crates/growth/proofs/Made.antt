@@ -11,45 +11,18 @@ use Rattle.sets.proofs.Laws.{has-large, has-highest}
 use Rattle.dependencies.specs.History.{History, Stored, as-writer, as-reader}
 use Rattle.store.specs.Store.{Key, VersionNumber, CommitNumber, Client, View, Store, Configuration, count, nextNumber, Commit}
 use Rattle.store.specs.Update.{reads, writes, newest, update, viewBefore}
-use Rattle.store.proofs.Updated.{Wrote, Read, at-same, at-other, wrote-update-is, read-update-is}
-use Rattle.store.proofs.Sound.{IsView, SoundStore, Sound, Appears, FitsCommit, LegalCommit, sound-update}
-use Rattle.store.proofs.Links.{history, appears-stored, stored-below}
-
--- commit c can be made on view u of store s
-pub record Made (s : Store) (u : View) (c : Commit) : Type 0 where
-  pub sound : SoundStore s
-  pub view : IsView s u
-  pub fits : FitsCommit (s .keys) c
-  -- "Its session number is above every number of that client that appears in the store as writer or reader."
-  pub newer : (t : CommitNumber) → Appears s t → 0 < t → s .clientOf t ≡ c .client → s .sessionOf t < c .session
+use Rattle.store.specs.History.{Wrote, Read, Appears, history}
+use Rattle.store.proofs.Updated.{at-same, at-other, wrote-update-is, read-update-is}
+use Rattle.store.specs.View.{IsView}
+use Rattle.store.specs.Sound.{SoundStore, Sound, WithinKeys}
+use Rattle.store.specs.Legal.{LegalCommit}
+use Rattle.store.proofs.Sound.{sound-update}
+use Rattle.store.proofs.Links.{appears-stored, stored-below}
+use Rattle.growth.specs.Made.{Made, Operates, Writes, WriterOf, ReaderOf, Writer, CommitBy}
 
 -- as a legal commit is on the view of its client
-pub legal-made : {g : Configuration} {c : Commit} → Sound g → FitsCommit (g .store .keys) c → LegalCommit g c → Made (g .store) (viewBefore g c) c
+pub legal-made : {g : Configuration} {c : Commit} → Sound g → WithinKeys (g .store .keys) c → LegalCommit g c → Made (g .store) (viewBefore g c) c
 legal-made {g} {c} h f l = record { sound = h .store; view = h .views (c .client); fits = f; newer = l .newer }
-
--- ---- sets of commits
-
--- t wrote a version of key k, or read one
-abbrev pub WriterOf : History → Key → CommitNumber → Type 0
-WriterOf H k t = (i : VersionNumber) × H .wrote t k i
-
-abbrev pub ReaderOf : History → Key → CommitNumber → Type 0
-ReaderOf H k t = (i : VersionNumber) × H .read t k i
-
--- t wrote a version of some key
-abbrev pub Writer : History → CommitNumber → Type 0
-Writer H t = (k : Key) × WriterOf H k t
-
--- t is a commit of client d in the store
-abbrev pub CommitBy : History → Client → CommitNumber → Type 0
-CommitBy H d t = Stored H t × (0 < t) × (H .clientOf t ≡ d)
-
--- the commit has an operation; it has a write
-abbrev pub Operates : Commit → Type 0
-Operates c = (k : Key) × (T (reads c k) ⊎ T (writes c k))
-
-abbrev pub Writes : Commit → Type 0
-Writes c = (k : Key) × T (writes c k)
 
 -- ---- what the commit adds to them
 

@@ -12,22 +12,15 @@ use Rattle.dependencies.specs.History.{Stored, SO, session-order, WR, write-rea
 use Rattle.dependencies.proofs.Implications.{snapshot-prefix}
 use Rattle.store.specs.Store.{Key, CommitNumber, View, Store, Configuration, openingStore, opening, count, version, nextNumber, Commit, Event}
 use Rattle.store.specs.Update.{reads, writes, newest, update, step, final}
-use Rattle.store.proofs.Updated.{Wrote, Read, wrote-stays}
-use Rattle.store.proofs.Sound.{SoundStore, Sound, opening-unread, sound-opening}
+use Rattle.store.specs.History.{Wrote, Read, history}
+use Rattle.store.proofs.Updated.{wrote-stays}
+use Rattle.store.specs.Sound.{SoundStore, Sound}
+use Rattle.store.proofs.Sound.{opening-unread, sound-opening}
 use Rattle.store.proofs.Run.{LegalRun, done, shifts, commits, sound-shifts, sound-commits}
-use Rattle.store.proofs.Links.{history, appears-stored, stored-below}
-use Rattle.growth.proofs.Made.{Made, legal-made, CommitBy, Operates, keys-after, read-exists, wrote-after, read-after, stored-after, stored-not-new, client-kept, client-new, session-kept, session-new}
-
-pub record Ordered (s : Store) : Type 0 where
-  -- of two commits of a client in the store the later has the larger session number
-  pub sessions-rise : (a b : CommitNumber) → Stored (history s) a → Stored (history s) b → 0 < a → 0 < b → s .clientOf a ≡ s .clientOf b
-      → a < b → s .sessionOf a < s .sessionOf b
-  -- version 0 is by the opening transaction
-  pub first-by-opening : (k : Key) → k < s .keys → Wrote s 0 k 0
-  -- later versions of a key are by later commits
-  pub writers-rise : (a b k i j : ℕ) → Wrote s a k i → Wrote s b k j → i < j → a < b
-  -- a version is read by later commits than its writer
-  pub readers-follow : (a b k i : ℕ) → Wrote s a k i → Read s b k i → a < b
+use Rattle.store.proofs.Links.{appears-stored, stored-below}
+use Rattle.growth.specs.Made.{Made, CommitBy, Operates}
+use Rattle.growth.proofs.Made.{legal-made, keys-after, read-exists, wrote-after, read-after, stored-after, stored-not-new, client-kept, client-new, session-kept, session-new}
+use Rattle.growth.specs.Ordered.{Ordered}
 
 -- ---- what follows from it
 

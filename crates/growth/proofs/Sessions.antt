@@ -6,19 +6,15 @@ use Prim.Native.Nat.{_<_}
 use native.Mathlib.Omega.{arith}
 use Rattle.dependencies.specs.History.{History, Stored, as-reader, SO, session-order, WR, write-read}
 use Rattle.store.specs.Store.{CommitNumber, Client, View, Store, nextNumber, Commit}
-use Rattle.store.proofs.Sound.{SoundStore}
-use Rattle.store.proofs.Links.{history}
-use Rattle.growth.proofs.Made.{Made, CommitBy, Operates, stored-not-new, commit-by-after, after}
-use Rattle.growth.proofs.Ordered.{Ordered, SO-rises, WR-rises}
-use Rattle.growth.proofs.Links.{FromSession, FromRead, SO-after, WR-after}
-
--- a wrote a version that a commit of client d read
-abbrev pub ReadByClient : History → Client → CommitNumber → Type 0
-ReadByClient H d a = (r : CommitNumber) × CommitBy H d r × WR H a r
-
--- a wrote a version that was "read by t or by a t' with t' SO t"
-abbrev pub ReadUpTo : History → CommitNumber → CommitNumber → Type 0
-ReadUpTo H a t = (r : CommitNumber) × ((r ≡ t) ⊎ SO H r t) × WR H a r
+use Rattle.store.specs.Sound.{SoundStore}
+use Rattle.store.specs.History.{history}
+use Rattle.growth.specs.Made.{Made, CommitBy, Operates}
+use Rattle.growth.proofs.Made.{stored-not-new, commit-by-after, after}
+use Rattle.growth.specs.Ordered.{Ordered}
+use Rattle.growth.proofs.Ordered.{SO-rises, WR-rises}
+use Rattle.growth.specs.Links.{FromSession, FromRead}
+use Rattle.growth.proofs.Links.{SO-after, WR-after}
+use Rattle.growth.specs.Sessions.{ReadByClient, ReadUpTo}
 
 -- such an a has a smaller number than t
 pub read-up-to-rises : (s : Store) → SoundStore s → Ordered s → (a t : CommitNumber) → ReadUpTo (history s) a t → a < t

@@ -12,9 +12,12 @@ use Rattle.dependencies.specs.History.{History, as-reader, SO, WR, WW, RW, read
 use Rattle.dependencies.proofs.Bounds.{SO-below, WR-below, plain-below, prefix-below, snapshot-below}
 use Rattle.store.specs.Store.{Key, CommitNumber, View, Store, nextNumber, Commit}
 use Rattle.store.specs.Update.{reads, writes}
-use Rattle.store.proofs.Links.{history, stored-below}
-use Rattle.growth.proofs.Made.{Made, ReaderOf, reader-of-after, stored-not-new, after}
-use Rattle.growth.proofs.Links.{FromSession, FromRead, FromWrite, FromReader, ToLater, from-reader-stored, to-later-stored, SO-after, WR-after, WW-after, RW-after}
+use Rattle.store.specs.History.{history}
+use Rattle.store.proofs.Links.{stored-below}
+use Rattle.growth.specs.Made.{Made, ReaderOf}
+use Rattle.growth.proofs.Made.{reader-of-after, stored-not-new, after}
+use Rattle.growth.specs.Links.{FromSession, FromRead, FromWrite, FromReader, ToLater}
+use Rattle.growth.proofs.Links.{from-reader-stored, to-later-stored, SO-after, WR-after, WW-after, RW-after}
 
 -- ---- links that grow: D before the commit t, D′ after it; E holds of the commits from which D′ leads to t
 

@@ -13,19 +13,15 @@ use Rattle.sets.proofs.Algebra.{full-is}
 use Rattle.dependencies.specs.History.{Holds}
 use Rattle.store.specs.Store.{Key, VersionNumber, CommitNumber, View, Store, count, version, nextNumber, Commit}
 use Rattle.store.specs.Update.{writes, update}
-use Rattle.store.proofs.Updated.{Wrote, count-update, count-written}
-use Rattle.store.proofs.Sound.{IsView, SoundStore, FitsView}
-use Rattle.store.proofs.Links.{history, held}
-use Rattle.growth.proofs.Made.{Made, WriterOf, Writer, Writes, wrote-after, writer-after, after}
-use Rattle.growth.proofs.Ordered.{Ordered, writes-once}
-
--- t wrote something, and the view holds none of it
-abbrev pub Lacking : Store → View → CommitNumber → Type 0
-Lacking s v t = Writer (history s) t × (¬ Holds (history s) (held v) t)
-
--- the view holds every version of the store
-abbrev pub Full : Store → View → Type 0
-Full s v = (k i : ℕ) → i < count s k → T (has (v k) i)
+use Rattle.store.specs.History.{Wrote, history, held}
+use Rattle.store.proofs.Updated.{count-update, count-written}
+use Rattle.store.specs.View.{IsView, FitsView}
+use Rattle.store.specs.Sound.{SoundStore}
+use Rattle.growth.specs.Made.{Made, WriterOf, Writer, Writes}
+use Rattle.growth.proofs.Made.{wrote-after, writer-after, after}
+use Rattle.growth.specs.Ordered.{Ordered}
+use Rattle.growth.proofs.Ordered.{writes-once}
+use Rattle.growth.specs.Views.{Lacking, Full, WithOwn}
 
 -- ---- in one store
 
@@ -125,10 +121,6 @@ full-holds-up-to s h v f a = (
   λ x. let w = full-holds s v f a .0 x in let l : a < nextNumber s = h .writers a (w .0) (w .1 .0) (w .1 .1) in (w, omega arith),
   λ (w, _). full-holds s v f a .1 w,
 )
-
--- the view v′ is v and the versions that the commit wrote
-abbrev pub WithOwn : Store → Commit → View → View → Type 0
-WithOwn s c v v′ = (k i : ℕ) → T (has (v′ k) i) ↔ (T (has (v k) i) ⊎ (T (writes c k) × (i ≡ count s k)))
 
 module _ (s : Store) (u : View) (c : Commit) (m : Made s u c) (v : View) (w : IsView s v) where
   -- a view of the store before holds the same commits after

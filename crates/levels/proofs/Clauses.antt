@@ -21,10 +21,12 @@ use Rattle.store.specs.Update.{writes, update}
 use Rattle.store.specs.Missing.{Place, Rule, missing}
 use Rattle.store.specs.Links.{wrote, hasRead, holds, SO, prefixLinks, snapshotLinks, oneOrMore}
 use Rattle.store.specs.Refusal.{allOf}
-use Rattle.store.proofs.Updated.{Wrote, Read, count-update}
-use Rattle.store.proofs.Sound.{IsView, SoundStore}
+use Rattle.store.specs.History.{Wrote, Read, history, held}
+use Rattle.store.proofs.Updated.{count-update}
+use Rattle.store.specs.View.{IsView}
+use Rattle.store.specs.Sound.{SoundStore}
 use Rattle.store.proofs.Missing.{missing-none}
-use Rattle.store.proofs.Links.{history, held, holds-means, so-means, prefix-paths, snapshot-paths}
+use Rattle.store.proofs.Links.{holds-means, so-means, prefix-paths, snapshot-paths}
 use Rattle.levels.specs.Clause.{Clause, monotonicReads, readYourWrites, monotonicWrites, writesFollowReads, updateAtomic, consistentPrefix, snapshotIsolation, serialisability, leadingTo, readBefore, wants, missingBy}
 
 -- what each clause says of a commit c made on view u of store s

@@ -11,8 +11,10 @@ use Rattle.dependencies.proofs.Implications.{7→6, 6→3, 6→4, 7→3, 7→4,
 use Rattle.store.specs.Store.{CommitNumber, View, Store, Configuration, nextNumber, Commit}
 use Rattle.store.specs.Update.{writes, update, viewBefore, storeAfter}
 use Rattle.store.specs.Missing.{Place}
-use Rattle.store.proofs.Sound.{IsView, SoundStore}
-use Rattle.store.proofs.Links.{history, held, reads-written}
+use Rattle.store.specs.View.{IsView}
+use Rattle.store.specs.Sound.{SoundStore}
+use Rattle.store.specs.History.{history, held}
+use Rattle.store.proofs.Links.{reads-written}
 use Rattle.levels.specs.Clause.{Clause, monotonicReads, readYourWrites, monotonicWrites, writesFollowReads, updateAtomic, consistentPrefix, snapshotIsolation, serialisability, missingBy}
 use Rattle.levels.specs.Level.{Level, MR, MW, RYW, WFR, CC, UA, PSI, CP, SI, SER, clausesOf, Failure, failure, failsClauses}
 use Rattle.levels.proofs.Clauses.{Says, clause-is}

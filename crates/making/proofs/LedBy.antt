@@ -11,9 +11,9 @@ use Rattle.search.proofs.Tests.{eq-test}
 use Rattle.sets.specs.Set.{Set}
 use Rattle.store.specs.Limits.{maxKeys, maxClients}
 use Rattle.store.specs.Store.{View, Store, Commit}
-use Rattle.store.proofs.Links.{history}
-use Rattle.growth.proofs.Made.{Made, Operates, CommitBy}
-use Rattle.growth.proofs.Links.{FromSession}
+use Rattle.store.specs.History.{history}
+use Rattle.growth.specs.Made.{Made, Operates, CommitBy}
+use Rattle.growth.specs.Links.{FromSession}
 use Rattle.state.specs.Keeps.{IsSet, CommitOf}
 use Rattle.state.proofs.Sets.{isSet-as, isSet-none}
 use Rattle.operations.specs.Given.{Given}

@@ -5,8 +5,8 @@ use mathlib.Core.List.{List}
 use Rattle.sets.specs.Set.{Set}
 use Rattle.store.specs.Limits.{maxKeys, maxClients, maxCommits}
 use Rattle.store.specs.Store.{View, Store, nextNumber, Commit}
-use Rattle.growth.proofs.Made.{Made}
-use Rattle.growth.proofs.Ordered.{Ordered}
+use Rattle.growth.specs.Made.{Made}
+use Rattle.growth.specs.Ordered.{Ordered}
 use Rattle.state.specs.Keeps.{RowIs, KeepsOperations, KeepsVersions, KeepsKeys, KeepsSessions, KeepsCommits, KeepsLinks}
 
 -- commit c of a client, on view u of store s; the store, the view and the operations are in the arrays

@@ -7,7 +7,8 @@ use Rattle.sets.specs.Set.{Set}
 use Rattle.store.specs.Limits.{maxCommits}
 use Rattle.store.specs.Store.{Key, View, Store, count, nextNumber, Commit}
 use Rattle.store.specs.Update.{writes}
-use Rattle.store.proofs.Sound.{IsView, SoundStore, FitsCommit}
+use Rattle.store.specs.View.{IsView}
+use Rattle.store.specs.Sound.{SoundStore, WithinKeys}
 use Rattle.state.specs.Rows.{RowAt}
 use Rattle.state.specs.Keeps.{KeepsVersions, KeepsKeys, KeepsOperations}
 
@@ -17,7 +18,7 @@ pub record Given (s : Store) (u : View) (c : Commit) (versions views : List ℕ)
   pub keys-are : s .keys ≡ n
   pub sound : SoundStore s
   pub view : IsView s u
-  pub fits : FitsCommit (s .keys) c
+  pub fits : WithinKeys (s .keys) c
   pub room-left : nextNumber s ≤ maxCommits
   pub in-versions : KeepsVersions s versions
   pub row : RowAt n views base u

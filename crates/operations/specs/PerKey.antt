@@ -4,7 +4,7 @@ use mathlib.Core.Path.{_≡_}
 use lib.Dec.{T}
 use Rattle.store.specs.Store.{Key, VersionNumber, CommitNumber, View, Store, version, Commit}
 use Rattle.store.specs.Update.{reads, writes, newest}
-use Rattle.store.proofs.Updated.{Wrote}
+use Rattle.store.specs.History.{Wrote}
 use Rattle.state.specs.Keeps.{WroteKey}
 
 -- a wrote the version of key k that is read

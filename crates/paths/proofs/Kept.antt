@@ -13,9 +13,10 @@ use Rattle.search.proofs.Tests.{same, both}
 use Rattle.sets.specs.Set.{Set, has, union}
 use Rattle.store.specs.Store.{Key, CommitNumber, View, Store, nextNumber, Commit}
 use Rattle.store.specs.Update.{reads, writes, update}
-use Rattle.store.proofs.Links.{history}
-use Rattle.growth.proofs.Made.{Made, after}
-use Rattle.growth.proofs.Links.{FromSession, FromRead, FromWrite, ToLater}
+use Rattle.store.specs.History.{history}
+use Rattle.growth.specs.Made.{Made}
+use Rattle.growth.proofs.Made.{after}
+use Rattle.growth.specs.Links.{FromSession, FromRead, FromWrite, ToLater}
 use Rattle.growth.proofs.Steps.{LeadsTo, Brought, brought-by-keys, SessionOrReadSource, PlainSource, prefix-to-new, prefix-to-old, prefix-leads-after, snapshot-to-new, snapshot-to-old, snapshot-leads-after}
 use Rattle.state.specs.Places.{numbers, linkPlace, leadPlace}
 use Rattle.state.specs.Keeps.{IsSet, ReadKey, FirstLink, Step, KeepsLinks, KeepsOperations}

@@ -24,13 +24,13 @@ ofKind first into zero = first
 ofKind first into (suc kind) = into
 
 -- the two places of a number, one for each kind, gain the set for their kind
-abbrev pub Gains : (ℕ → ℕ → ℕ) → Set → Set → ℕ → ℕ → Set → Type 0
-Gains place first into x j g = (kind : ℕ) × (kind < 2) × (j ≡ place kind x) × (g ≡ ofKind first into kind)
+abbrev pub GainsAt : (ℕ → ℕ → ℕ) → Set → Set → ℕ → ℕ → Set → Type 0
+GainsAt place first into x j g = (kind : ℕ) × (kind < 2) × (j ≡ place kind x) × (g ≡ ofKind first into kind)
 
 -- the rows of the commits of a set
 abbrev pub RowsOf : Set → Set → Set → ℕ → Set → Type 0
-RowsOf over first into j g = (t : CommitNumber) × T (has over t) × Gains linkPlace first into t j g
+RowsOf over first into j g = (t : CommitNumber) × T (has over t) × GainsAt linkPlace first into t j g
 
 -- what the readers bring along, of the keys below n that are read
 abbrev pub LeadsOf : Set → ℕ → Set → Set → ℕ → Set → Type 0
-LeadsOf ranks n first into j g = (k : Key) × (k < n) × (T (has ranks (2 * k)) × Gains leadPlace first into k j g)
+LeadsOf ranks n first into j g = (k : Key) × (k < n) × (T (has ranks (2 * k)) × GainsAt leadPlace first into k j g)

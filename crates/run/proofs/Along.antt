@@ -17,15 +17,20 @@ use Rattle.store.specs.Store.{Store, Configuration, openingStore, opening, next
 use Rattle.store.specs.Update.{update, step, viewBefore, storeAfter, final, firstAlong}
 use Rattle.store.specs.Refusal.{Refusal, refuse, refusesEvent}
 use Rattle.store.proofs.Updated.{at-same, at-other}
-use Rattle.store.proofs.Sound.{Sound, FitsView, FitsCommit, LegalShift, LegalCommit, sound-opening, sound-shift, sound-commit}
+use Rattle.store.specs.Sound.{Sound, WithinKeys}
+use Rattle.store.specs.View.{FitsView}
+use Rattle.store.specs.Legal.{LegalShift, LegalCommit}
+use Rattle.store.proofs.Sound.{sound-opening, sound-shift, sound-commit}
 use Rattle.store.proofs.Legal.{legal-shift, legal-commit}
 use Rattle.trace.specs.Result.{Result, refused, taken}
 use Rattle.trace.specs.Entry.{Listed, Entry, shifting, committing, over, commitMeant, event, eventsOf}
 use Rattle.trace.specs.Format.{Header, commitsWith, entriesFrom}
 use Rattle.trace.proofs.InForm.{First}
 use Rattle.levels.specs.Level.{Level, Failure, failsEvent}
-use Rattle.growth.proofs.Made.{Made, legal-made}
-use Rattle.growth.proofs.Ordered.{Ordered, ordered-opening, ordered-commit}
+use Rattle.growth.specs.Made.{Made}
+use Rattle.growth.proofs.Made.{legal-made}
+use Rattle.growth.specs.Ordered.{Ordered}
+use Rattle.growth.proofs.Ordered.{ordered-opening, ordered-commit}
 use Rattle.run.specs.Along.{ClientsBelow, Along}
 
 -- a refusal is not a value
@@ -126,7 +131,7 @@ module _ (bytes : List ℕ) (h : Header) (es : List Event) (left at n : ℕ) (g 
 
   -- after a commit
   pub along-commit : (d : Client) (v : SessionNumber) (os : List Operation) (l : Listed) (next : ℕ) (first : First bytes h n (g .store .commits) left (committing d v os l) next rest)
-      → FitsCommit (g .store .keys) (commitMeant g d v os l) → d < 256 → refusesEvent n g (event g (committing d v os l)) ≡ none → After (committing d v os l) next first
+      → WithinKeys (g .store .keys) (commitMeant g d v os l) → d < 256 → refusesEvent n g (event g (committing d v os l)) ≡ none → After (committing d v os l) next first
   unfolding step update event
   along-commit d v os l next first f b q =
       let c = commitMeant g d v os l in

@@ -14,7 +14,7 @@ use Rattle.trace.specs.Entry.{listedOr, over, event}
 use Rattle.trace.specs.Format.{Header, viewAt, commitsWith}
 use Rattle.trace.specs.Meaning.{entryOf, readingOf, PlacesFit, RecordSays}
 use Rattle.trace.proofs.Decoded.{ReadAt, record-read}
-use Rattle.trace.proofs.WellFormed.{FitsEvent}
+use Rattle.trace.specs.WellFormed.{FitsEvent}
 use Rattle.trace.proofs.Entries.{sound-fits, opening-fits}
 use Rattle.trace.specs.declared.records.Record.{Record}
 use Rattle.trace.specs.declared.records.Record.the-variants.{Shift, Commit}
@@ -49,14 +49,14 @@ record-readable file bytes at n clients made (Commit client count session operat
 -- ---- a shift
 
 module _ (file : List ℕ) (n client masks made : ℕ) {r : Record} (is : r ≡ Shift client masks) (number : ℕ) {versions keys views seen views′ seen′ : List ℕ} (o : Outcome)
-    (answer : (g : Configuration) (i : ℕ) → ShiftGiven g file masks client n versions keys views seen → outcomeOf i o ≡ refusesEvent i g (shift client (viewAt file masks n)))
-    (kept : (g : Configuration) → ShiftGiven g file masks client n versions keys views seen → o ≡ Taken → KeepsViews (step g (shift client (viewAt file masks n))) views′ seen′) where
+    (answer : (g : Configuration) (i : ℕ) → ShiftGiven g (viewAt file masks n) n versions keys views seen → outcomeOf i o ≡ refusesEvent i g (shift client (viewAt file masks n)))
+    (kept : (g : Configuration) → ShiftGiven g (viewAt file masks n) n versions keys views seen → o ≡ Taken → KeepsViews (step g (shift client (viewAt file masks n))) views′ seen′) where
   shift-event : (g : Configuration) → shift client (viewAt file masks n) ≡ event g (entryOf file n r)
   unfolding entryOf event over listedOr
   shift-event g = ap (λ (x : Record). event g (entryOf file n x)) (sym is)
 
   module _ {sessions commits links verdicts values : List ℕ} (g : Configuration) (fs : Level → Option Failure) (s : Standing g fs n made versions keys views seen sessions commits links verdicts values) where
-    shift-given : {clients : ℕ} → FitsEvent n clients (shift client (viewAt file masks n)) → ShiftGiven g file masks client n versions keys views seen
+    shift-given : {clients : ℕ} → FitsEvent n clients (shift client (viewAt file masks n)) → ShiftGiven g (viewAt file masks n) n versions keys views seen
     shift-given f = record {
       sound = s .sound;
       ordered = s .ordered;
@@ -76,7 +76,7 @@ module _ (file : List ℕ) (n client masks made : ℕ) {r : Record} (is : r ≡ 
         or-none none = refl
         or-none (some x) = refl
 
-    shift-done : ShiftGiven g file masks client n versions keys views seen
+    shift-done : ShiftGiven g (viewAt file masks n) n versions keys views seen
         → EventDone number g fs (shift client (viewAt file masks n)) versions keys views′ seen′ sessions commits links verdicts values o
     unfolding step
     shift-done given = record {

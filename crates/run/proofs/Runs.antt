@@ -11,7 +11,8 @@ use Rattle.store.specs.Limits.{maxClients, maxCommits, minBytes}
 use Rattle.store.specs.Store.{Configuration, openingStore, opening}
 use Rattle.store.specs.Update.{step, firstAlong}
 use Rattle.store.specs.Refusal.{refusesEvent}
-use Rattle.store.proofs.Sound.{Sound, FitsView, FitsCommit}
+use Rattle.store.specs.Sound.{Sound, WithinKeys}
+use Rattle.store.specs.View.{FitsView}
 use Rattle.trace.specs.Result.{taken}
 use Rattle.trace.specs.Entry.{Entry, shifting, committing, over, commitMeant, event, eventsOf}
 use Rattle.trace.specs.Format.{Header, commitsWith, entriesFrom}
@@ -19,7 +20,8 @@ use Rattle.trace.specs.Meaning.{entryOf, readingOf, RecordSays, InFormAt}
 use Rattle.trace.specs.declared.records.Record.{Record}
 use Rattle.trace.specs.declared.records.Reading.the-variants.{Whole}
 use Rattle.trace.proofs.Decoded.{ReadAt, record-read}
-use Rattle.trace.proofs.Entries.{FitsEntry, sound-fits}
+use Rattle.trace.specs.WellFormed.{FitsEntry}
+use Rattle.trace.proofs.Entries.{sound-fits}
 use Rattle.trace.proofs.Fits.{commit-fits}
 use Rattle.trace.proofs.InForm.{First, first-in-form, entries-first}
 use Rattle.levels.specs.Level.{Level, Failure, failsEvent}
@@ -143,7 +145,7 @@ module _ {file : List ℕ} {n clients records : ℕ} {rs : List Entry} where
           let c = commitMeant (s .g) d v os l in
           let fits = f (s .g) (sound-fits (s .along .sound) (s .along .keys-are)) in
           along-commit file (header n clients records) (eventsOf (opening n) rs) left at number (s .g) (s .rest) (s .fs) (s .along) d v os l next first
-          (subst (λ (k : ℕ). FitsCommit k c) (sym (s .along .keys-are)) (commit-fits n clients c fits)) (omega (arith, fits .client-below)) q
+          (subst (λ (k : ℕ). WithinKeys k c) (sym (s .along .keys-are)) (commit-fits n clients c fits)) (omega (arith, fits .client-below)) q
 
       module _ (versions′ keys′ views′ seen′ sessions′ commits′ links′ verdicts′ values′ : List ℕ) (o : Outcome)
           (answer : (g : Configuration) (fs : Level → Option Failure) (clients : ℕ) → Fitting file n clients r

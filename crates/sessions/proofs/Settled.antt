@@ -14,10 +14,14 @@ use Rattle.dependencies.specs.History.{History, Stored, SO, session-order, WR, 
 use Rattle.store.specs.Limits.{maxKeys, maxClients}
 use Rattle.store.specs.Store.{View, Store, nextNumber, Commit}
 use Rattle.store.specs.Update.{update}
-use Rattle.store.proofs.Links.{history, appears-stored}
-use Rattle.growth.proofs.Made.{Made, Operates, CommitBy, stored-not-new, new-not-stored, number-after, client-kept, client-new, session-kept, session-new, commit-by-after}
-use Rattle.growth.proofs.Links.{FromSession, FromRead, SO-after}
-use Rattle.growth.proofs.Sessions.{ReadByClient, ReadUpTo, read-by-client-after, read-up-to-after}
+use Rattle.store.specs.History.{history}
+use Rattle.store.proofs.Links.{appears-stored}
+use Rattle.growth.specs.Made.{Made, Operates, CommitBy}
+use Rattle.growth.proofs.Made.{stored-not-new, new-not-stored, number-after, client-kept, client-new, session-kept, session-new, commit-by-after}
+use Rattle.growth.specs.Links.{FromSession, FromRead}
+use Rattle.growth.proofs.Links.{SO-after}
+use Rattle.growth.specs.Sessions.{ReadByClient, ReadUpTo}
+use Rattle.growth.proofs.Sessions.{read-by-client-after, read-up-to-after}
 use Rattle.state.specs.Places.{numbers, commitsPlace, drawnPlace, barPlace, logPlace, beforePlace, readPlace, packed}
 use Rattle.state.specs.Keeps.{IsSet, CommitOf, KeepsSessions, KeepsCommits}
 use Rattle.state.proofs.Sets.{isSet-as, isSet-union, isSet-insert}

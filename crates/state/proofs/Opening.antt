@@ -17,11 +17,10 @@ use Rattle.dependencies.specs.History as D
 use Rattle.dependencies.proofs.Opening.{Opening, stored-is-0, no-plain}
 use Rattle.store.specs.Limits.{maxKeys, maxClients}
 use Rattle.store.specs.Store.{Version, openingVersion, Store, openingStore, opening, count, version}
-use Rattle.store.proofs.Updated.{Wrote}
+use Rattle.store.specs.History.{Wrote, history, held}
 use Rattle.store.proofs.Sound.{opening-first, sound-opening}
-use Rattle.store.proofs.Links.{history, held}
 use Rattle.store.proofs.Opening.{opening-history}
-use Rattle.growth.proofs.Sessions.{ReadUpTo}
+use Rattle.growth.specs.Sessions.{ReadUpTo}
 use Rattle.state.specs.Places.{headPlace, readersPlace, fullPlace, writersPlace, viewPlace, commitsPlace, drawnPlace, barPlace, beforePlace, readPlace, linkPlace, leadPlace, versionsLength, keysLength, viewsLength, seenLength, sessionsLength, commitsLength, linksLength}
 use Rattle.state.specs.Keeps.{IsSet, KeepsVersions, KeepsKeys, KeepsViews, KeepsSessions, KeepsCommits, KeepsLinks, Keeps, WroteKey, CommitOf, FirstLink, Step}
 

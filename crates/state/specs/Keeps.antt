@@ -14,9 +14,8 @@ use Rattle.dependencies.specs.History as D
 use Rattle.store.specs.Limits.{maxClients}
 use Rattle.store.specs.Store.{Key, CommitNumber, Client, SessionNumber, View, Store, Configuration, count, version, nextNumber, read, write, Commit}
 use Rattle.store.specs.Update.{valueOf}
-use Rattle.store.proofs.Updated.{Wrote, Read}
-use Rattle.store.proofs.Links.{history, held}
-use Rattle.growth.proofs.Sessions.{ReadUpTo}
+use Rattle.store.specs.History.{Wrote, Read, history, held}
+use Rattle.growth.specs.Sessions.{ReadUpTo}
 use Rattle.state.specs.Places.{numbers, headPlace, readersPlace, fullPlace, writersPlace, viewPlace, commitsPlace, drawnPlace, barPlace, logPlace, beforePlace, readPlace, linkPlace, leadPlace, packed}
 use Rattle.state.specs.Room.{VersionsRoom, KeysRoom, ViewsRoom, SeenRoom, SessionsRoom, CommitsRoom, LinksRoom, FreshRoom, ValuesRoom}
 

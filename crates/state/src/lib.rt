@@ -9,7 +9,9 @@ ghost use lib.ListN.{length};
 ghost use Rattle.sets.specs.Set.{highest};
 ghost use Rattle.store.specs.Limits.{maxKeys};
 ghost use Rattle.state.specs.Places.{perKey, numbers, writerIn};
+ghost use Rattle.store.specs.Refusal.{refuse, refuseKey, refusePlace};
 ghost use Rattle.state.specs.Accesses.{Left};
+ghost use Rattle.state.specs.Answers.{refusalOf};
 ghost use Rattle.state.specs.Keeps.{IsSet};
 ghost use Rattle.state.specs.Rows.{InRows};
 
@@ -65,6 +67,45 @@ pub struct Refusal {
     pub record: usize,
     pub key: Key,
     pub version: VersionNumber,
+}
+
+// Refusals are made here alone, so that what a refusal has more one day is said in one place.
+impl Refusal {
+    // One that names its record alone.
+    pub fn of_record(code: usize, number: usize) -> Refusal
+        ensures { λ r. ⌜ refusalOf r ≡ refuse code number ⌝ }
+    {
+        Refusal {
+            code,
+            record: number,
+            key: Key(0),
+            version: VersionNumber(0),
+        }
+    }
+
+    // One that names a key.
+    pub fn of_key(code: usize, number: usize, key: Key) -> Refusal
+        ensures { λ r. ⌜ refusalOf r ≡ refuseKey code number (key .0) ⌝ }
+    {
+        Refusal {
+            code,
+            record: number,
+            key,
+            version: VersionNumber(0),
+        }
+    }
+
+    // One that names a version of a key.
+    pub fn of_version(code: usize, number: usize, key: Key, version: VersionNumber) -> Refusal
+        ensures { λ r. ⌜ refusalOf r ≡ refusePlace code number (record { key = key .0; version = version .0 }) ⌝ }
+    {
+        Refusal {
+            code,
+            record: number,
+            key,
+            version,
+        }
+    }
 }
 
 // The first version that a search came upon.

@@ -19,8 +19,11 @@ use Rattle.store.specs.Update.{valueOf, reads, writes, touches, newest, 
 use Rattle.store.specs.Missing.{Place, missing}
 use Rattle.store.specs.Links.{wrote, hasRead, somewhere, stored, holds}
 use Rattle.store.specs.Refusal.{Refusal, refuse, refuseKey, refusePlace, notAbove, oldNumber, differs, wrongAt, wrongRead, badMaskAt, badMask, wholeWriters, halfHeld, allOf, lost, strayAt, stray, refusesEvent}
-use Rattle.store.proofs.Updated.{Wrote, Read}
-use Rattle.store.proofs.Sound.{IsView, SoundStore, Sound, Appears, FitsView, FitsCommit, LegalShift, LegalCommit, sound-update}
+use Rattle.store.specs.History.{Wrote, Read, Appears}
+use Rattle.store.specs.View.{IsView, FitsView}
+use Rattle.store.specs.Sound.{SoundStore, Sound, WithinKeys}
+use Rattle.store.specs.Legal.{LegalShift, LegalCommit}
+use Rattle.store.proofs.Sound.{sound-update}
 use Rattle.store.proofs.Missing.{missing-none, somewhere-is}
 
 module _ (s : Store) (h : SoundStore s) where
@@ -126,7 +129,7 @@ differs-none : (v : Version) → ¬ T (differs none v)
 unfolding differs
 differs-none v t = t
 
-module _ (g : Configuration) (c : Commit) (h : Sound g) (f : FitsCommit (g .store .keys) c) where
+module _ (g : Configuration) (c : Commit) (h : Sound g) (f : WithinKeys (g .store .keys) c) where
   abbrev pub s : Store
   s = g .store
 

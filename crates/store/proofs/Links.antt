@@ -19,18 +19,10 @@ use Rattle.dependencies.proofs.Rings.{LinkThat}
 use Rattle.store.specs.Store.{Key, VersionNumber, CommitNumber, View, Store, count, version, nextNumber}
 use Rattle.store.specs.Missing.{Rule}
 use Rattle.store.specs.Links.{wrote, hasRead, somewhere, stored, holds, SO, WR, earlierLater, WW, RW, LinkKind, so, wr, ww, rw as rw-kind, linked, isRW, withRW, prefixLinks, snapshotLinks, oneOrMore}
-use Rattle.store.proofs.Updated.{Wrote, Read}
-use Rattle.store.proofs.Sound.{SoundStore, Appears}
+use Rattle.store.specs.History.{Wrote, Read, Appears, history, held}
+use Rattle.store.specs.Sound.{SoundStore}
 use Rattle.store.proofs.Missing.{somewhere-is}
 use Rattle.store.proofs.Legal.{stored-is, holds-is}
-
--- who wrote and who read which version of the store
-abbrev pub history : Store → History
-history s = record { wrote = Wrote s; read = Read s; clientOf = s .clientOf; sessionOf = s .sessionOf }
-
--- the versions that a view holds, as a fact of each
-abbrev pub held : View → D.View
-held u = λ k i. T (has (u k) i)
 
 pub reads-written : (s : Store) → ReadsWritten (history s)
 reads-written s b k i r = (_, (r .0, refl))

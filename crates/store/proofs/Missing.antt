@@ -13,7 +13,7 @@ use Rattle.sets.specs.Set.{has}
 use Rattle.store.specs.Store.{Key, VersionNumber, CommitNumber, View, Store, count, version}
 use Rattle.store.specs.Missing.{Place, Rule, lacks, missingAt, atKey, missing}
 use Rattle.store.specs.Links.{somewhere}
-use Rattle.store.proofs.Sound.{SoundStore}
+use Rattle.store.specs.Sound.{SoundStore}
 
 module _ (s : Store) (want : Rule) (u : View) where
   -- each version that is wanted is in the view

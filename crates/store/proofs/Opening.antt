@@ -8,7 +8,7 @@ use Rattle.sets.proofs.Laws.{has-none}
 use Rattle.dependencies.proofs.Opening.{Opening}
 use Rattle.store.specs.Store.{Version, Store, openingStore, opening, count}
 use Rattle.store.proofs.Sound.{opening-first, sound-opening}
-use Rattle.store.proofs.Links.{history}
+use Rattle.store.specs.History.{history}
 
 -- "At the start each list is version 0: value 0, writer the opening transaction (number 0), no readers"
 pub opening-history : (keys : ℕ) → Opening (history (opening keys .store))

@@ -10,27 +10,30 @@ use Rattle.search.proofs.Tests.{both, orElse-none}
 use Rattle.store.specs.Store.{Client, View, Store, Configuration, nextNumber, Commit, Event, shift, commit}
 use Rattle.store.specs.Update.{update, viewBefore, storeAfter, step, final, firstAlong}
 use Rattle.store.specs.Refusal.{Refusal, refusesEvent}
-use Rattle.store.proofs.Sound.{IsView, SoundStore, Sound, FitsView, FitsCommit, LegalShift, LegalCommit, sound-shift, sound-commit}
+use Rattle.store.specs.View.{IsView, FitsView}
+use Rattle.store.specs.Sound.{SoundStore, Sound, WithinKeys}
+use Rattle.store.specs.Legal.{LegalShift, LegalCommit}
+use Rattle.store.proofs.Sound.{sound-shift, sound-commit}
 use Rattle.store.proofs.Legal.{legal-shift, legal-commit}
 
 -- what the form of the records ensures
 abbrev pub FitsAll : ℕ → List Event → Type 0
 FitsAll keys [] = Unit {0}
 FitsAll keys (shift d u ∷ es) = FitsView keys u × FitsAll keys es
-FitsAll keys (commit c ∷ es) = FitsCommit keys c × FitsAll keys es
+FitsAll keys (commit c ∷ es) = WithinKeys keys c × FitsAll keys es
 
 -- each record in turn is legal
 pub data LegalRun : Configuration → List Event → Type 0 where
   done : {g : Configuration} → LegalRun g []
   shifts : {g : Configuration} {d : Client} {u : View} {es : List Event} → FitsView (g .store .keys) u → LegalShift g d u
       → LegalRun (step g (shift d u)) es → LegalRun g (shift d u ∷ es)
-  commits : {g : Configuration} {c : Commit} {es : List Event} → FitsCommit (g .store .keys) c → LegalCommit g c
+  commits : {g : Configuration} {c : Commit} {es : List Event} → WithinKeys (g .store .keys) c → LegalCommit g c
       → LegalRun (step g (commit c)) es → LegalRun g (commit c ∷ es)
 
 pub sound-shifts : {g : Configuration} {d : Client} {u : View} → Sound g → LegalShift g d u → Sound (step g (shift d u))
 sound-shifts {g} {d} {u} h l = sound-shift g d u h (l .view)
 
-pub sound-commits : {g : Configuration} {c : Commit} → Sound g → FitsCommit (g .store .keys) c → LegalCommit g c → Sound (step g (commit c))
+pub sound-commits : {g : Configuration} {c : Commit} → Sound g → WithinKeys (g .store .keys) c → LegalCommit g c → Sound (step g (commit c))
 sound-commits {g} {c} h f l = sound-commit g c h f (l .view)
 
 pub sound-run : {g : Configuration} {es : List Event} → Sound g → LegalRun g es → Sound (final g es)
@@ -79,7 +82,7 @@ each-both P Q g [] p q = tt
 each-both P Q g (shift d u ∷ es) p q = each-both P Q (step g (shift d u)) es p q
 each-both P Q g (commit c ∷ es) p q = ((p .0, q .0), each-both P Q (step g (commit c)) es (p .1) (q .1))
 
-pub each-map : (P Q : Configuration → Commit → Type 0) → ((g : Configuration) (c : Commit) → Sound g → FitsCommit (g .store .keys) c → LegalCommit g c → P g c → Q g c)
+pub each-map : (P Q : Configuration → Commit → Type 0) → ((g : Configuration) (c : Commit) → Sound g → WithinKeys (g .store .keys) c → LegalCommit g c → P g c → Q g c)
     → {g : Configuration} {es : List Event} → Sound g → LegalRun g es → Each P g es → Each Q g es
 each-map P Q f h done p = tt
 each-map P Q f h (shifts a l r) p = each-map P Q f (sound-shifts h l) r p
@@ -88,7 +91,7 @@ each-map P Q f h (commits a l r) p = (f _ _ h a l (p .0), each-map P Q f (sound-
 -- what a shift keeps, and a commit with P keeps, holds at the end
 pub run-keeps : (P : Configuration → Commit → Type 0) (I : Configuration → Type 0)
     → ((g : Configuration) (d : Client) (u : View) → Sound g → LegalShift g d u → I g → I (step g (shift d u)))
-    → ((g : Configuration) (c : Commit) → Sound g → FitsCommit (g .store .keys) c → LegalCommit g c → P g c → I g → I (step g (commit c)))
+    → ((g : Configuration) (c : Commit) → Sound g → WithinKeys (g .store .keys) c → LegalCommit g c → P g c → I g → I (step g (commit c)))
     → {g : Configuration} {es : List Event} → Sound g → LegalRun g es → Each P g es → I g → I (final g es)
 unfolding final
 run-keeps P I a b h done p i = i

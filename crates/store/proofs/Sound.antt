@@ -15,54 +15,10 @@ use Rattle.sets.specs.Set.{has}
 use Rattle.sets.proofs.Laws.{has-none, has-lt}
 use Rattle.store.specs.Store.{Key, VersionNumber, CommitNumber, Client, Version, openingVersion, View, Store, Configuration, openingStore, opening, count, version, nextNumber, read, write, Commit, Event, shift, commit}
 use Rattle.store.specs.Update.{valueOf, reads, writes, newest, atNumber, update, viewBefore, storeAfter, step}
-use Rattle.store.proofs.Updated.{at-same, at-other, Wrote, Read, count-update, wrote-update, read-update, untouched}
-
--- "A view holds version 0 of each key, only versions that exist, and all versions of a writer if it holds one"; a mask is a word,
--- and there is none beyond the keys
-pub record IsView (s : Store) (u : View) : Type 0 where
-  pub word : (k : Key) → u k < 2 ^ 64
-  pub beyond : (k : Key) → s .keys ≤ k → u k ≡ 0
-  pub opened : (k : Key) → k < s .keys → T (has (u k) 0)
-  pub exist : (k i : ℕ) → T (has (u k) i) → i < count s k
-  pub whole : (t k i l j : ℕ) → T (has (u k) i) → Wrote s t k i → Wrote s t l j → T (has (u l) j)
-
--- numbers and lengths in a store
-pub record SoundStore (s : Store) : Type 0 where
-  pub writers : (t k i : ℕ) → Wrote s t k i → t < nextNumber s
-  pub readers : (t k i : ℕ) → Read s t k i → t < nextNumber s
-  pub some-version : (k : Key) → k < s .keys → 0 < count s k
-  pub few : (k : Key) → count s k ≤ nextNumber s
-  pub only-keys : (k i : ℕ) → i < count s k → k < s .keys
-
-pub record Sound (g : Configuration) : Type 0 where
-  pub store : SoundStore (g .store)
-  pub views : (d : Client) → IsView (g .store) (g .views d)
-
--- the commit t appears in the store as writer or reader
-abbrev pub Appears : Store → CommitNumber → Type 0
-Appears s t = (k : Key) × (i : VersionNumber) × (i < count s k) × ((version s k i .writer ≡ t) ⊎ T (has (version s k i .readers) t))
-
--- operations are of keys of the store; a mask is a word, and there is none beyond the keys: what the form of a record ensures
-pub record FitsView (keys : ℕ) (u : View) : Type 0 where
-  pub word : (k : Key) → u k < 2 ^ 64
-  pub beyond : (k : Key) → keys ≤ k → u k ≡ 0
-
-pub record FitsCommit (keys : ℕ) (c : Commit) : Type 0 where
-  pub read-keys : (k : Key) → T (reads c k) → k < keys
-  pub write-keys : (k : Key) → T (writes c k) → k < keys
-  pub after : FitsView keys (c .viewAfter)
-
--- a shift that the store takes
-pub record LegalShift (g : Configuration) (d : Client) (u : View) : Type 0 where
-  pub view : IsView (g .store) u
-  pub grows : (k i : ℕ) → T (has (g .views d k) i) → T (has (u k) i)
-
--- a commit that the store takes: rules 1 to 4 of 01, Store and views
-pub record LegalCommit (g : Configuration) (c : Commit) : Type 0 where
-  pub newer : (t : CommitNumber) → Appears (g .store) t → 0 < t → g .store .clientOf t ≡ c .client → g .store .sessionOf t < c .session
-  pub values : (k x : ℕ) → valueOf read (c .operations) k ≡ some x → x ≡ version (g .store) k (newest (viewBefore g c) k) .value
-  pub view : IsView (storeAfter g c) (c .viewAfter)
-  pub still : (k : Key) → ¬ T (reads c k) → ¬ T (writes c k) → c .viewAfter k ≡ viewBefore g c k
+use Rattle.store.specs.History.{Wrote, Read}
+use Rattle.store.proofs.Updated.{at-same, at-other, count-update, wrote-update, read-update, untouched}
+use Rattle.store.specs.View.{IsView, FitsView}
+use Rattle.store.specs.Sound.{SoundStore, Sound, WithinKeys}
 
 -- ---- the opening
 
@@ -206,7 +162,7 @@ module _ (s : Store) (u : View) (c : Commit) (h : SoundStore s) where
       key k i l (no n) (yes w) = wk k w
       key k i l (no n) (no m) = h .only-keys k i (subst (λ (vs : List Version). i < length vs) (untouched s u c k n m) l)
 
-pub sound-commit : (g : Configuration) (c : Commit) → Sound g → FitsCommit (g .store .keys) c → IsView (storeAfter g c) (c .viewAfter) → Sound (step g (commit c))
+pub sound-commit : (g : Configuration) (c : Commit) → Sound g → WithinKeys (g .store .keys) c → IsView (storeAfter g c) (c .viewAfter) → Sound (step g (commit c))
 unfolding step
 sound-commit g c h f v = record {
   store = sound-update (g .store) (viewBefore g c) c (h .store) (f .read-keys) (f .write-keys);

@@ -17,6 +17,7 @@ use Rattle.sets.specs.Set.{has, insert, highest}
 use Rattle.sets.proofs.Laws.{insert-has, has-insert, insert-self, has-none}
 use Rattle.store.specs.Store.{Key, VersionNumber, CommitNumber, Value, Version, openingVersion, View, Store, Configuration, count, version, nextNumber, read, write, Operation, Commit}
 use Rattle.store.specs.Update.{valueOf, reads, writes, touches, newest, readBy, noteRead, append, atNumber, update}
+use Rattle.store.specs.History.{Wrote, Read}
 
 -- ---- tables
 
@@ -121,13 +122,6 @@ append-none none t vs h = refl
 append-none (some x) t vs h = absurd (h tt)
 
 -- ---- the whole commit
-
--- what the store says: commit t wrote, or read, version i of key k
-abbrev pub Wrote : Store → CommitNumber → Key → VersionNumber → Type 0
-Wrote s t k i = (i < count s k) × (version s k i .writer ≡ t)
-
-abbrev pub Read : Store → CommitNumber → Key → VersionNumber → Type 0
-Read s t k i = (i < count s k) × T (has (version s k i .readers) t)
 
 module _ (s : Store) (u : View) (c : Commit) where
   abbrev noted : Key → List Version

@@ -4,4 +4,8 @@ pub mod Update
 pub mod Missing
 pub mod Refusal
 pub mod Links
+pub mod History
+pub mod View
+pub mod Sound
+pub mod Legal
 pub mod Image

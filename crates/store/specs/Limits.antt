@@ -1,5 +1,5 @@
 -- "Sizes of a rack" (01): the limits of a store, named once. Assumes nothing.
-use Prim.Native.Nat.{ℕ, _+_}
+use Prim.Native.Nat.{ℕ, _+_, _*_}
 
 -- "Keys 1 to 16"
 abbrev pub maxKeys : ℕ
@@ -27,3 +27,7 @@ minBytes = 12
 
 abbrev pub maxBytes : ℕ
 maxBytes = 65536
+
+-- the image, "At most 16,960 bytes": its first 8, 8 for each commit, and for each key 4 and 16 for each of its versions
+abbrev pub maxImage : ℕ
+maxImage = 8 + 8 * maxCommits + maxKeys * (4 + 16 * perKey)

@@ -4,7 +4,7 @@ ghost use mathlib.Core.Path.{_≡_};
 ghost use mathlib.Core.List.{[], _∷_};
 ghost use Prim.Native.Nat.{_+_, _*_};
 ghost use lib.ListN.{replicate};
-ghost use Rattle.store.specs.Limits.{maxKeys, maxClients, maxCommits, numbers, perKey, minBytes, maxBytes};
+ghost use Rattle.store.specs.Limits.{maxKeys, maxClients, maxCommits, numbers, perKey, minBytes, maxBytes, maxImage};
 
 pub struct Store {
     // Of each version its value and writer; then of each its readers.
@@ -37,11 +37,13 @@ impl Store {
     pub const VERSIONS: usize = Store::COMMITS + 1;
 
     pub const NUMBERS: usize = Store::COMMITS + 1;
+    // An image is at most so long.
+    pub const IMAGE: usize = 8 + 8 * Store::COMMITS + Store::KEYS * (4 + 16 * Store::VERSIONS);
 
     // The constants are the limits of specs/Limits.antt. Nothing calls this: it is here for its promise, which holds no longer where a limit
     // is changed in one of the two places alone.
-    pub fn limits() -> [usize; 7]
-        ensures { λ r. ⌜ r ≡ maxKeys ∷ maxClients ∷ maxCommits ∷ perKey ∷ numbers ∷ maxBytes ∷ minBytes ∷ [] ⌝ }
+    pub fn limits() -> [usize; 8]
+        ensures { λ r. ⌜ r ≡ maxKeys ∷ maxClients ∷ maxCommits ∷ perKey ∷ numbers ∷ maxBytes ∷ minBytes ∷ maxImage ∷ [] ⌝ }
     {
         [
             Store::KEYS,
@@ -51,6 +53,7 @@ impl Store {
             Store::NUMBERS,
             Store::BYTES,
             Store::HEADER,
+            Store::IMAGE,
         ]
     }
 

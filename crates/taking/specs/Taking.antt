@@ -4,14 +4,14 @@ use mathlib.Core.Path.{_≡_}
 use mathlib.Core.List.{List}
 use lib.ListN.{length, replicate}
 use Rattle.store.specs.Limits.{maxKeys, maxCommits}
-use Rattle.store.proofs.Sound.{SoundStore}
+use Rattle.store.specs.Sound.{SoundStore}
+use Rattle.store.specs.Image.{ClientsFit}
 use Rattle.trace.specs.Result.{refused, taken}
 use Rattle.trace.specs.Format.{Trace}
 use Rattle.answer.specs.Answer.{finalStore, accept, verdict}
 use Rattle.state.specs.Places.{versionsLength, keysLength, commitsLength}
 use Rattle.state.specs.Keeps.{KeepsVersions, KeepsKeys, KeepsCommits}
 use Rattle.state.specs.Answers.{refusalOf}
-use Rattle.image.specs.Parts.{ClientsFit}
 use Rattle.verdicts.specs.Told.{tellAll, verdictsOf}
 use Rattle.verdicts.specs.declared.told.Verdicts.{Verdicts}
 use Rattle.taking.specs.declared.Taking.{Taking}

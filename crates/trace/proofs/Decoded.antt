@@ -13,15 +13,16 @@ use Rattle.endian.proofs.Laws.{leAt-lt}
 use Rattle.store.specs.Limits.{maxCommits, minBytes, maxBytes}
 use Rattle.store.specs.Store.{Configuration, opening}
 use Rattle.store.specs.Update.{step}
-use Rattle.store.proofs.Sound.{FitsView}
+use Rattle.store.specs.View.{FitsView}
 use Rattle.store.proofs.Run.{commitsIn}
 use Rattle.trace.specs.Result.{Result, refused, taken, onTaken}
 use Rattle.trace.specs.Entry.{Entry, listedOr, over, event, eventsOf}
 use Rattle.trace.specs.Format.{Header, Trace, viewAt, accessOf, operationAt, operationsAt, rankAt, operationFits, operationsFit, Reading, misshapen, whole, shiftAt, commitOf, commitAt, recordAt, commitsWith, onRecord, entriesFrom, headerAt, withinLimits, traceOf, decode}
 use Rattle.trace.specs.Encode.{accessNumber}
 use Rattle.trace.proofs.Tests.{operationFits-is, withinLimits-is}
-use Rattle.trace.proofs.WellFormed.{rank, FitsOperation, Rise, FitsEvents, WellFormed}
-use Rattle.trace.proofs.Entries.{length-eventsOf, commitsWith-commitsIn, ViewsFit, FitsEntry, opening-fits, step-fits}
+use Rattle.trace.specs.WellFormed.{rank, FitsOperation, Rise, ViewsFit, FitsEntry}
+use Rattle.trace.proofs.WellFormed.{FitsEvents, WellFormed}
+use Rattle.trace.proofs.Entries.{length-eventsOf, commitsWith-commitsIn, opening-fits, step-fits}
 
 -- ---- answers
 

@@ -9,11 +9,13 @@ use lib.ListN.{length}
 use Rattle.search.proofs.Choose.{choose-ind}
 use Rattle.store.specs.Store.{Client, Configuration, opening, openingStore, Event, shift, commit}
 use Rattle.store.specs.Update.{step}
-use Rattle.store.proofs.Sound.{FitsView, Sound, sound-opening}
+use Rattle.store.specs.View.{FitsView}
+use Rattle.store.specs.Sound.{Sound}
+use Rattle.store.proofs.Sound.{sound-opening}
 use Rattle.store.proofs.Run.{commitsIn}
 use Rattle.trace.specs.Entry.{Entry, shifting, committing, every, listedOr, over, event, eventsOf}
 use Rattle.trace.specs.Format.{commitsWith}
-use Rattle.trace.proofs.WellFormed.{FitsEvent}
+use Rattle.trace.specs.WellFormed.{FitsEvent, ViewsFit, FitsEntry}
 
 -- ---- records that list every key
 
@@ -47,14 +49,6 @@ commitsWith-commitsIn g (shifting d l) es commits = refl
 commitsWith-commitsIn g (committing d n os l) es commits = omega arith
 
 -- ---- what fits
-
--- the present view of every client fits
-abbrev pub ViewsFit : ℕ → Configuration → Type 0
-ViewsFit keys g = (d : Client) → FitsView keys (g .views d)
-
--- wherever views fit, the record means an event that fits
-abbrev pub FitsEntry : ℕ → ℕ → Entry → Type 0
-FitsEntry keys clients r = (g : Configuration) → ViewsFit keys g → FitsEvent keys clients (event g r)
 
 -- the views of a sound configuration fit
 pub sound-fits : {g : Configuration} {keys : ℕ} → Sound g → g .store .keys ≡ keys → ViewsFit keys g

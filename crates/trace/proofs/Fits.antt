@@ -10,10 +10,11 @@ use Rattle.search.proofs.Choose.{choose-ind}
 use Rattle.search.proofs.Tests.{and-right}
 use Rattle.store.specs.Store.{Key, Value, Access, read, write, Operation, Commit, Event, shift, commit}
 use Rattle.store.specs.Update.{sameAccess, valueOf}
-use Rattle.store.proofs.Sound as Store
+use Rattle.store.specs.Sound as Store
 use Rattle.store.proofs.Run.{FitsAll}
 use Rattle.trace.specs.Format.{Trace}
-use Rattle.trace.proofs.WellFormed.{rank, Rise, FitsCommit, FitsEvents, WellFormed}
+use Rattle.trace.specs.WellFormed.{rank, Rise, FitsCommit}
+use Rattle.trace.proofs.WellFormed.{FitsEvents, WellFormed}
 
 -- a key at which the operations have a value is a key of the store
 valueOf-key : (a : Access) (keys low : ℕ) (os : List Operation) (k : Key) → Rise keys low os → T (isSome (valueOf a os k)) → k < keys
@@ -24,7 +25,7 @@ valueOf-key a keys low (o ∷ os) k rise t =
     (λ here s. subst (λ (j : Key). j < keys) (eqb→eq (o .key) k (and-right (sameAccess a (o .access)) (eqb (o .key) k) here)) (rise .0 .of-the-store))
     (λ elsewhere. valueOf-key a keys (suc (rank o)) os k (rise .1)) t
 
-pub commit-fits : (keys clients : ℕ) (c : Commit) → FitsCommit keys clients c → Store.FitsCommit keys c
+pub commit-fits : (keys clients : ℕ) (c : Commit) → FitsCommit keys clients c → Store.WithinKeys keys c
 commit-fits keys clients c f = record {
   read-keys = λ k. valueOf-key read keys 0 (c .operations) k (f .rising);
   write-keys = λ k. valueOf-key write keys 0 (c .operations) k (f .rising);

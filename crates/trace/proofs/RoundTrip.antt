@@ -16,7 +16,7 @@ use Rattle.endian.proofs.Laws.{length-leBytes}
 use Rattle.endian.proofs.Stands.{Stands, stands-whole, stands-at, stands-within, stands-first, stands-second, stands-behind, stands-piece, read-fitting, read-first}
 use Rattle.store.specs.Limits.{maxKeys, maxClients, maxCommits, minBytes, maxBytes}
 use Rattle.store.specs.Store.{Client, View, opening, Access, read, write, Operation, Commit, Event, shift, commit}
-use Rattle.store.proofs.Sound.{FitsView}
+use Rattle.store.specs.View.{FitsView}
 use Rattle.store.proofs.Run.{commitsIn}
 use Rattle.trace.specs.Result.{Result, taken, onTaken}
 use Rattle.trace.specs.Entry.{Entry, shifting, committing, every, eventsOf}
@@ -24,7 +24,8 @@ use Rattle.trace.specs.Format.{Header, Trace, viewAt, accessOf, operatio
 use Rattle.trace.specs.Encode.{accessNumber, operationBytes, operationsBytes, viewBytes, eventBytes, eventsBytes, fileBody, encode}
 use Rattle.trace.proofs.Sizes.{length-operationBytes, length-operationsBytes, eventLength, length-eventBytes, eventsLength, length-fileBody, length-encode}
 use Rattle.trace.proofs.Tests.{operationFits-is, withinLimits-is}
-use Rattle.trace.proofs.WellFormed.{rank, FitsOperation, Rise, accessNumber-le-one, rising-length, FitsShift, FitsCommit, FitsEvent, FitsEvents, WellFormed}
+use Rattle.trace.specs.WellFormed.{rank, FitsOperation, Rise, FitsShift, FitsCommit, FitsEvent}
+use Rattle.trace.proofs.WellFormed.{accessNumber-le-one, rising-length, FitsEvents, WellFormed}
 use Rattle.trace.proofs.Entries.{inFull, event-inFull, eventsOf-inFull, commitsWith-commitsIn}
 
 -- the header of a trace

@@ -13,15 +13,16 @@ use Rattle.sets.specs.Set.{Set, has, insert}
 use Rattle.sets.proofs.Laws.{has-none, insert-has, has-insert, insert-self}
 use Rattle.sets.proofs.Algebra.{empty-is, both-is}
 use Rattle.store.specs.Store.{CommitNumber, View, Store, Commit}
-use Rattle.growth.proofs.Views.{Lacking}
-use Rattle.growth.proofs.Clauses.{LacksOneOf, monotonic-writes-is, write-follows-reads-is, update-atomic-is, consistent-prefix-is, snapshot-isolation-is, serialisable-is}
+use Rattle.growth.specs.Views.{Lacking}
+use Rattle.growth.specs.Clauses.{LacksOneOf}
+use Rattle.growth.proofs.Clauses.{monotonic-writes-is, write-follows-reads-is, update-atomic-is, consistent-prefix-is, snapshot-isolation-is, serialisable-is}
 use Rattle.levels.specs.Clause.{Clause, monotonicReads, readYourWrites, monotonicWrites, writesFollowReads, updateAtomic, consistentPrefix, snapshotIsolation, serialisability, clauseNumber, missingBy}
 use Rattle.levels.proofs.Clauses.{Says, clause-is}
 use Rattle.state.specs.declared.Found.{Found}
 use Rattle.state.specs.Keeps.{IsSet}
 use Rattle.state.specs.Answers.{placeOf}
 use Rattle.verdicts.specs.declared.Wanted.{Wanted}
-use Rattle.verdicts.specs.Wants.{Lacks}
+use Rattle.verdicts.specs.Wants.{LacksSome}
 use Rattle.verdicts.specs.AtHand.{AtHand}
 use Rattle.verdicts.specs.Verdicts.{FailingClauses}
 use Rattle.verdicts.proofs.FirstFailing.{same-clause, number-range}
@@ -31,7 +32,7 @@ back : {A B : Type 0} → A ↔ B → B ↔ A
 back (f, g) = (g, f)
 
 -- no commit of W is lacking where the two sets have nothing in common
-none-lacking : (s : Store) (u : View) (W : CommitNumber → Type 0) (m lacking : Set) → IsSet lacking (Lacking s u) → (Lacks s u → IsSet m W)
+none-lacking : (s : Store) (u : View) (W : CommitNumber → Type 0) (m lacking : Set) → IsSet lacking (Lacking s u) → (LacksSome s u → IsSet m W)
     → (bitAnd m lacking ≡ 0) ↔ (¬ LacksOneOf s u W)
 none-lacking s u W m lacking is h = let e = empty-is (bitAnd m lacking) in (
   λ z (a, w, x). e .0 z a (both-is m lacking a .1 (h (a, x) a .1 w, is a .1 x)),
@@ -49,7 +50,7 @@ module _ (s : Store) (u : View) (c : Commit) (w : Wanted) (lost own : Found) (h 
   found-passes : (f : Found) (x : Clause) → placeOf f ≡ missingBy s u c x → (met : ℕ) → (met ≡ 0) ↔ (placeOf f ≡ none) → Passes met x
   found-passes f x e met g = both g (λ z. sym e ∙ z, λ z. e ∙ z)
 
-  set-passes : (x : Clause) (W : CommitNumber → Type 0) (m : Set) → (Lacks s u → IsSet m W) → Says s u c x ↔ (¬ LacksOneOf s u W) → Passes (bitAnd m (w .lacking)) x
+  set-passes : (x : Clause) (W : CommitNumber → Type 0) (m : Set) → (LacksSome s u → IsSet m W) → Says s u c x ↔ (¬ LacksOneOf s u W) → Passes (bitAnd m (w .lacking)) x
   set-passes x W m is e = both (none-lacking s u W m (w .lacking) (h .wants .lacking) is) (both (back e) (said x))
 
   lacking-passes : Passes (w .lacking) serialisability

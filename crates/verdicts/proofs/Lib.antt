@@ -1,6 +1,4 @@
-pub mod Gathering
 pub mod TableOfLevels
-pub mod MissingSame
 pub mod FirstFailing
 pub mod OnSets
 pub mod ByClause

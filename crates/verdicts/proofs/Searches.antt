@@ -23,19 +23,22 @@ use Rattle.store.specs.Missing.{Place, Rule, missing}
 use Rattle.store.specs.Links.{wrote, hasRead, holds, SO, prefixLinks, snapshotLinks, oneOrMore}
 use Rattle.store.specs.Refusal.{allOf}
 use Rattle.store.proofs.Updated.{count-update}
-use Rattle.store.proofs.Sound.{IsView, SoundStore}
-use Rattle.store.proofs.Links.{history, held, stored-below, holds-means, so-means, prefix-paths, snapshot-paths}
-use Rattle.growth.proofs.Views.{Lacking, held-writer}
-use Rattle.growth.proofs.Clauses.{LeadsToHeld}
+use Rattle.store.specs.View.{IsView}
+use Rattle.store.specs.Sound.{SoundStore}
+use Rattle.store.specs.History.{history, held}
+use Rattle.store.proofs.Links.{stored-below, holds-means, so-means, prefix-paths, snapshot-paths}
+use Rattle.growth.specs.Views.{Lacking}
+use Rattle.growth.proofs.Views.{held-writer}
+use Rattle.growth.specs.Clauses.{LeadsToHeld}
 use Rattle.levels.specs.Clause.{Clause, monotonicReads, readYourWrites, monotonicWrites, writesFollowReads, updateAtomic, consistentPrefix, snapshotIsolation, serialisability, clauseNumber, leadingTo, readBefore, wants, missingBy}
 use Rattle.state.specs.Keeps.{IsSet, Step, KeepsOperations}
 use Rattle.state.proofs.Sets.{isSet-union}
 use Rattle.views.specs.Rules.{byWriter, byReader, ofWritten}
 use Rattle.views.proofs.Words.{meets-is}
-use Rattle.verdicts.specs.Wants.{Lacks}
+use Rattle.verdicts.specs.Wants.{LacksSome}
+use Rattle.views.proofs.Misses.{missing-same, missing-agree}
 use Rattle.verdicts.proofs.OnSets.{writes-ranked}
 use Rattle.verdicts.proofs.FirstFailing.{same-clause}
-use Rattle.verdicts.proofs.MissingSame.{missing-same}
 
 -- ---- clauses 1 and 2
 
@@ -60,10 +63,7 @@ module _ (s : Store) (h : SoundStore s) (u : View) (v : IsView s u) where
 
   -- rules that agree on what is not held
   rules-agree : (f g : Rule) → ((k i : ℕ) → Lacking s u (version s k i .writer) → T (f k i) ↔ T (g k i)) → missing s f u ≡ missing s g u
-  rules-agree f g e = missing-same s s f g u u refl (λ k i. (
-    λ (l, t, n). (l, e k i (writer-lacking k i l n) .0 t, n),
-    λ (l, t, n). (l, e k i (writer-lacking k i l n) .1 t, n),
-  ))
+  rules-agree f g e = missing-agree s f g u (λ k i l n. e k i (writer-lacking k i l n))
 
   -- "if u holds a version by t, versions by any t' with t' R t", for any links
   leading-rule : {R : ℕ → ℕ → Type 0} (r : Relation) → Means r R → (k i : ℕ) → T (leadingTo s u r k i) ↔ LeadsToHeld s u R (version s k i .writer)
@@ -72,27 +72,27 @@ module _ (s : Store) (h : SoundStore s) (u : View) (v : IsView s u) where
       (any-is (nextNumber s) _ (λ t. and-is (holds s u t) _ (holds-means s h u t) (m (version s k i .writer) t)))
       (λ (t, _, (x, y)). (t, x, y), λ (t, x, y). (t, h .writers t (x .0) (x .1) (x .3), (x, y)))
 
-  by-writer : {R : ℕ → ℕ → Type 0} (r : Relation) → Means r R → (m : Set) → (Lacks s u → IsSet m (LeadsToHeld s u R)) → missing s (byWriter s m) u ≡ missing s (leadingTo s u r) u
+  by-writer : {R : ℕ → ℕ → Type 0} (r : Relation) → Means r R → (m : Set) → (LacksSome s u → IsSet m (LeadsToHeld s u R)) → missing s (byWriter s m) u ≡ missing s (leadingTo s u r) u
   by-writer r means m is = rules-agree (byWriter s m) (leadingTo s u r) (λ k i x.
       let f = is (version s k i .writer, x) (version s k i .writer) in
       let g = leading-rule r means k i in
       (λ t. g .1 (f .0 t), λ t. f .1 (g .0 t)))
 
   module _ (c : Commit) where
-    pub before-missing : (m : Set) → (Lacks s u → IsSet m (LeadsToHeld s u (D.SO (history s)))) → missing s (byWriter s m) u ≡ missingBy s u c monotonicWrites
+    pub before-missing : (m : Set) → (LacksSome s u → IsSet m (LeadsToHeld s u (D.SO (history s)))) → missing s (byWriter s m) u ≡ missingBy s u c monotonicWrites
     unfolding missingBy wants choose
     before-missing m is = by-writer (SO s) (so-means s h) m is
 
-    pub prefix-missing : (m : Set) → (Lacks s u → IsSet m (LeadsToHeld s u (Plus (Step 0 s)))) → missing s (byWriter s m) u ≡ missingBy s u c consistentPrefix
+    pub prefix-missing : (m : Set) → (LacksSome s u → IsSet m (LeadsToHeld s u (Plus (Step 0 s)))) → missing s (byWriter s m) u ≡ missingBy s u c consistentPrefix
     unfolding missingBy wants choose
     prefix-missing m is = by-writer (oneOrMore s (prefixLinks s)) (prefix-paths s h) m is
 
-    pub snapshot-missing : (m : Set) → (Lacks s u → IsSet m (LeadsToHeld s u (Plus (Step 1 s)))) → missing s (byWriter s m) u ≡ missingBy s u c snapshotIsolation
+    pub snapshot-missing : (m : Set) → (LacksSome s u → IsSet m (LeadsToHeld s u (Plus (Step 1 s)))) → missing s (byWriter s m) u ≡ missingBy s u c snapshotIsolation
     unfolding missingBy wants choose
     snapshot-missing m is = by-writer (oneOrMore s (snapshotLinks s)) (snapshot-paths s h) m is
 
     -- "each version read by t or by a t' with t' SO t": its readers meet what the view holds, and what is before that in SO
-    pub read-missing : (before seen : Set) → before < 2 ^ 64 → seen < 2 ^ 64 → (Lacks s u → IsSet before (LeadsToHeld s u (D.SO (history s))))
+    pub read-missing : (before seen : Set) → before < 2 ^ 64 → seen < 2 ^ 64 → (LacksSome s u → IsSet before (LeadsToHeld s u (D.SO (history s))))
         → IsSet seen (Holds (history s) (held u)) → missing s (byReader s (union before seen)) u ≡ missingBy s u c writesFollowReads
     unfolding missingBy wants choose readBefore
     read-missing before seen lb ls is seen-is =

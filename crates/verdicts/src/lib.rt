@@ -7,17 +7,17 @@ mod sources;
 mod table;
 pub mod told; // told.rt: the verdicts as they are answered
 
-// ---- the array of verdicts, as specs/Verdicts.antt has it: of each level the clause of its first failure, then the records, keys and versions
-
+// The levels, in report order.
 pub const LEVELS: usize = 10;
 
-const RECORDS: usize = LEVELS;
+// Where the tables of the verdicts start, a word for each level, after the clauses; and how long they are together.
+pub const RECORDS: usize = LEVELS;
 
-const KEYS: usize = 2 * LEVELS;
+pub const KEYS: usize = 2 * LEVELS;
 
-const VERSIONS: usize = 3 * LEVELS;
+pub const VERSIONS: usize = 3 * LEVELS;
 
-pub const VERDICTS: usize = 4 * LEVELS;
+pub const WORDS: usize = 4 * LEVELS;
 
 // The commits of which the view holds nothing, and where there are any the commits that the clauses want: those before what the view holds in SO
 // (clause 3), those from which it was read (4), the writers of the keys written (5), and those that lead to it (6 and 7).
@@ -28,4 +28,14 @@ pub struct Wanted {
     pub written: u64,
     pub prefix: u64,
     pub snapshot: u64,
+}
+
+// What is at hand where a commit fails some clause: the commits that its view holds, the ranks of its operations, what clauses 1 and 2 miss, and the
+// commits that the others want.
+pub struct Hand {
+    pub seen: u64,
+    pub ranks: u64,
+    pub lost: state::Found,
+    pub own: state::Found,
+    pub wanted: Wanted,
 }

@@ -1,5 +1,5 @@
 -- New masks that are answered at once: all versions that there are, and the client's view itself. Assumes nothing.
-use Prim.Native.Nat.{ℕ, _+_, _≤_, _<_}
+use Prim.Native.Nat.{ℕ, _+_, _<_}
 use mathlib.Core.Path.{_≡_, sym, ap, _∙_}
 use mathlib.Core.Logic.{_↔_}
 use mathlib.Core.Option.{none}
@@ -14,10 +14,11 @@ use Rattle.sets.proofs.Laws.{has-below}
 use Rattle.dependencies.specs.History.{Holds}
 use Rattle.store.specs.Store.{Key, View, Store, count}
 use Rattle.store.specs.Refusal.{halfHeld}
-use Rattle.store.proofs.Sound.{IsView, SoundStore, FitsView}
+use Rattle.store.specs.View.{IsView, FitsView}
+use Rattle.store.specs.Sound.{SoundStore}
 use Rattle.store.proofs.Legal.{view-is}
-use Rattle.store.proofs.Links.{history, held}
-use Rattle.growth.proofs.Made.{Writer}
+use Rattle.store.specs.History.{history, held}
+use Rattle.growth.specs.Made.{Writer}
 use Rattle.growth.proofs.Views.{full-view, full-holds}
 use Rattle.state.specs.Keeps.{IsSet, KeepsKeys, KeepsMasks}
 use Rattle.state.proofs.Sets.{isSet-as}

@@ -13,7 +13,7 @@ use Rattle.sets.proofs.Algebra.{without-is, without-word}
 use Rattle.store.specs.Store.{Key, View, Store, count}
 use Rattle.store.specs.Missing.{Rule, missing}
 use Rattle.store.specs.Refusal.{allOf}
-use Rattle.store.proofs.Sound.{IsView}
+use Rattle.store.specs.View.{IsView}
 use Rattle.store.proofs.Missing.{MetAt, missing-none, missing-found}
 use Rattle.views.proofs.Tests.{has-as}
 

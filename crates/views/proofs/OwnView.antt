@@ -1,6 +1,6 @@
 -- A view after a commit that is the view before and the commit's own versions: clauses 1 and 2 miss nothing of it, codes 10, 11 and 14 are not due,
 -- and it holds the commits that were held and, where it writes something, the commit. Assumes nothing.
-use Prim.Native.Nat.{ℕ, _<_}
+use Prim.Native.Nat.{ℕ}
 use mathlib.Core.Path.{_≡_, refl, sym}
 use mathlib.Core.Bool.{not}
 use mathlib.Core.Logic.{_⊎_, inl, inr, _↔_}
@@ -14,11 +14,13 @@ use Rattle.store.specs.Update.{reads, writes, touches, update}
 use Rattle.store.specs.Missing.{missing}
 use Rattle.store.specs.Links.{wrote}
 use Rattle.store.specs.Refusal.{allOf, badMask, halfHeld, strayAt, stray}
-use Rattle.store.proofs.Sound.{SoundStore, FitsView}
+use Rattle.store.specs.Sound.{SoundStore}
+use Rattle.store.specs.View.{FitsView}
 use Rattle.store.proofs.Missing.{missing-none}
 use Rattle.store.proofs.Legal.{view-is}
-use Rattle.store.proofs.Links.{history, held}
-use Rattle.growth.proofs.Made.{Made, Writes, keys-after, sound-after}
+use Rattle.store.specs.History.{history, held}
+use Rattle.growth.specs.Made.{Made, Writes}
+use Rattle.growth.proofs.Made.{keys-after, sound-after}
 use Rattle.growth.proofs.Views.{holds-own, own-view}
 use Rattle.state.specs.Keeps.{IsSet}
 use Rattle.state.proofs.Sets.{isSet-as, isSet-union}

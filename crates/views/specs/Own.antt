@@ -7,7 +7,7 @@ use lib.ListN.{getD}
 use Rattle.search.specs.Choose.{choose}
 use Rattle.sets.specs.Set.{Set, has, union}
 use Rattle.store.specs.Store.{Key, View, Store, Commit}
-use Rattle.growth.proofs.Views.{WithOwn}
+use Rattle.growth.specs.Views.{WithOwn}
 use Rattle.state.specs.Places.{fullPlace}
 
 -- ---- in the store

@@ -5,7 +5,7 @@ use lib.Dec.{T}
 use lib.ListN.{getD}
 use Rattle.sets.specs.Set.{Set, has}
 use Rattle.store.specs.Store.{Key, CommitNumber, View, Store}
-use Rattle.store.proofs.Updated.{Wrote}
+use Rattle.store.specs.History.{Wrote}
 
 -- with a number the set holds all below it
 abbrev pub Downward : Set → Type 0

@@ -6,7 +6,7 @@ use Rattle.sets.specs.Set.{Set, has}
 use Rattle.store.specs.Limits.{maxCommits}
 use Rattle.store.specs.Store.{View, Store, version}
 use Rattle.store.specs.Missing.{Rule}
-use Rattle.store.proofs.Sound.{SoundStore}
+use Rattle.store.specs.Sound.{SoundStore}
 use Rattle.state.specs.Keeps.{KeepsVersions, KeepsKeys}
 use Rattle.state.specs.Rows.{RowAt}
 use Rattle.views.specs.Words.{meets}

@@ -6,7 +6,7 @@ use borrow.Author.Needs.{needs}
 use borrow.Author.Count.{below-more}
 use Rattle.store.specs.Store.{View, Store}
 use Rattle.store.specs.Refusal.{allOf}
-use Rattle.store.proofs.Sound.{IsView}
+use Rattle.store.specs.View.{IsView}
 use Rattle.store.proofs.Missing.{MetAt}
 use Rattle.state.specs.Keeps.{KeepsMasks}
 use Rattle.state.specs.Rows.{RowAt}
