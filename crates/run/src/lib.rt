@@ -1,6 +1,6 @@
 // The run of a trace, record by record, on the arrays that keep the store: what its records are refused for (codes 9 to 14), what they
 // change, and what the ten levels say of them.
-pub mod one; // one.rt: one record
+mod one; // one.rt: one record
 
 use one::one_record;
 use shifts::Outcome;
