@@ -6,7 +6,7 @@ fn main() {
     // Room for one byte more than a file may have, so that a longer input is seen to be too long.
     let mut file = [0u8; Store::BYTES + 1];
     // Room for the longest image.
-    let mut image = [0u8; 16960];
+    let mut image = [0u8; Store::IMAGE];
     let n = io::read_full(STDIN_FILENO, &mut file);
     report::print(judging::judge(&file[..n], &mut image));
 }

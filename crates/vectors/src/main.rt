@@ -12,7 +12,7 @@ fn judge_argument(i: usize) {
         return;
     }
     let mut file = [0u8; Store::BYTES + 1];
-    let mut image = [0u8; 16960];
+    let mut image = [0u8; Store::IMAGE];
     let n = io::read_full(fd, &mut file);
     libc::close(fd);
     io::write_all(STDOUT_FILENO, &name[..length]);
