@@ -5,3 +5,4 @@ pub mod ByClause
 pub mod Searches
 pub mod Noted
 pub mod Judged
+pub mod Words

@@ -3,7 +3,7 @@
 pub mod held;
 pub mod masks;
 pub mod missing;
-pub mod prefix;
+mod prefix;
 
 // The commits of which the masks hold a version; or the first version that they lack by a commit of which they hold another.
 pub enum Viewed {
