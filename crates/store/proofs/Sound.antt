@@ -33,12 +33,12 @@ opening-first true zero l = (tt, refl)
 opening-first true (suc i) l = absurd (omega arith)
 opening-first false i l = absurd (omega arith)
 
-opening-mask : (b : Bool) (i : ℕ) → T (has (choose b 1 0) i) → T b × (i < 1)
+pub opening-mask : (b : Bool) (i : ℕ) → T (has (choose b 1 0) i) → T b × (i < 1)
 unfolding choose
 opening-mask true i h = (tt, has-lt 1 1 i (lit< tt) h)
 opening-mask false i h = absurd (has-none i h)
 
-opening-word : (b : Bool) → choose b 1 0 < 2 ^ 64
+pub opening-word : (b : Bool) → choose b 1 0 < 2 ^ 64
 unfolding choose
 opening-word true = lit< tt
 opening-word false = lit< tt
@@ -48,12 +48,12 @@ unfolding choose
 opening-some true t = lit< tt
 opening-some false t = absurd t
 
-opening-zeroth : (b : Bool) → T b → T (has (choose b 1 0) 0)
+pub opening-zeroth : (b : Bool) → T b → T (has (choose b 1 0) 0)
 unfolding choose
 opening-zeroth true t = tt
 opening-zeroth false t = absurd t
 
-opening-beyond : (k keys : ℕ) → keys ≤ k → _≡_ {A = ℕ} (choose (ltb k keys) 1 0) 0
+pub opening-beyond : (k keys : ℕ) → keys ≤ k → _≡_ {A = ℕ} (choose (ltb k keys) 1 0) 0
 unfolding choose
 opening-beyond k keys l = go (ltb k keys) refl
   where

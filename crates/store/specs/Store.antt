@@ -64,8 +64,11 @@ openingStore keys = record {
 }
 
 -- "each client's view is {0} at each key"
+abbrev pub openingView : ℕ → View
+openingView keys k = choose (ltb k keys) 1 0
+
 unfoldable pub opening : ℕ → Configuration
-opening keys = record { store = openingStore keys; views = λ d k. choose (ltb k keys) 1 0 }
+opening keys = record { store = openingStore keys; views = λ d. openingView keys }
 
 -- how many versions a key has; version i of a key
 abbrev pub count : Store → Key → ℕ

@@ -28,7 +28,7 @@ use Rattle.verdicts.proofs.FirstFailing.{none-failing}
 use Rattle.verdicts.proofs.Searches.{lost-is, own-is}
 use Rattle.verdicts.proofs.Noted.{orElse-end}
 
--- what clauses 1 and 2 find missing
+-- for proofs alone: what clauses 1 and 2 find missing
 abbrev pub Searched : Store → View → Commit → Found → Found → Type 0
 Searched s u c lost own = (placeOf lost ≡ missing s (allOf u) (c .viewAfter)) × (placeOf own ≡ missing (update s u c) (wrote (update s u c) (nextNumber s)) (c .viewAfter))
 

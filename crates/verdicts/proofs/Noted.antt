@@ -149,7 +149,7 @@ takes-failure n s u c failing h i l {struck} {clause} f {before} {after} room e 
 
 -- ---- all levels
 
--- the levels below l have been noted
+-- for proofs alone: the levels below l have been noted
 pub record Noted (news : ℕ → Option Failure) (l : ℕ) (before after : List ℕ) : Type 0 where
   pub done : (i : ℕ) → i < l → (old : Option Failure) → KeepsVerdict before i old → KeepsVerdict after i (orElse old (news i))
   pub waits : (i : ℕ) → i < levelCount → l ≤ i → (old : Option Failure) → KeepsVerdict before i old → KeepsVerdict after i old

@@ -13,6 +13,7 @@ entry f [] d i l = absurd (omega arith)
 entry f (x ∷ xs) d zero l = refl
 entry f (x ∷ xs) d (suc i) l = entry f xs d i (omega arith)
 
+-- for proofs alone: the sets of clauses that the code has, in report order
 abbrev pub table : List ℕ
 table = 2 ∷ 8 ∷ 4 ∷ 16 ∷ 30 ∷ 32 ∷ 62 ∷ 70 ∷ 166 ∷ 256 ∷ []
 

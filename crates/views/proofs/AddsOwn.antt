@@ -22,10 +22,11 @@ use Rattle.store.specs.Limits.{maxCommits}
 use Rattle.store.specs.Store.{Key, View, Store, count, Commit}
 use Rattle.store.specs.Update.{writes}
 use Rattle.growth.specs.Made.{Made}
+use Rattle.state.specs.Places.{fullPlace}
 use Rattle.state.specs.Keeps.{IsSet, KeepsKeys, KeepsMasks, KeepsOperations}
 use Rattle.state.proofs.Sets.{isSet-as, isSet-none, isSet-single, isSet-union}
 use Rattle.state.specs.Rows.{RowAt}
-use Rattle.views.specs.Own.{AddsOwn, ownMask, OwnBelow}
+use Rattle.views.specs.Own.{AddsOwn, ownMask}
 use Rattle.views.proofs.Tests.{has-as}
 use Rattle.state.proofs.Ranks.{writes-rank}
 
@@ -59,6 +60,11 @@ union-zero a b = (
   λ e. (omega (arith, or-add-and a b, and-le-l a b, and-le-r a b), omega (arith, or-add-and a b, and-le-l a b, and-le-r a b)),
   λ (e, f). ap (λ (x : ℕ). bitOr x b) e ∙ or-zero-l b ∙ f,
 )
+
+-- for proofs alone: at each key below n the mask is the one at `base` and the version that is appended
+unfoldable pub OwnBelow : List ℕ → List ℕ → ℕ → List ℕ → Set → ℕ → Type 0
+OwnBelow fresh views base keys ranks n =
+    (k : Key) → k < n → getD fresh k 0 ≡ union (getD views (base + k) 0) (ownMask (getD keys (fullPlace k) 0) ranks k)
 
 -- and at the keys passed
 module _ (fresh views : List ℕ) (base : ℕ) (keys : List ℕ) (ranks : Set) where

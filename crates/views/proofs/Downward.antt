@@ -73,7 +73,7 @@ no-gaps m e = eqb→eq m 0 (true-T _ e)
 
 module _ (s : Store) (old u : View) (n : ℕ) (versions keys masks : List ℕ) (base : ℕ) (seen : Set) (fresh : List ℕ)
     (m : NewMasks s old u n versions keys masks base seen fresh) (good : badMask s u ≡ none) where
-  -- t wrote a version of key k that the masks hold; that they lack
+  -- for proofs alone: t wrote a version of key k that the masks hold; that they lack
   abbrev pub HeldAt : Key → CommitNumber → Type 0
   HeldAt k t = (i : ℕ) × T (has (u k) i) × Wrote s t k i
 

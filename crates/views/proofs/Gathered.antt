@@ -21,7 +21,7 @@ use Rattle.views.proofs.Tests.{has-as}
 
 -- ---- over the numbers of a set
 
--- the writers of the versions of key k that are in the set and no longer in `left`
+-- for proofs alone: the writers of the versions of key k that are in the set and no longer in `left`
 pub record Gathering (versions : List ℕ) (k among left writers : ℕ) : Type 0 where
   pub word : left < 2 ^ 64
   pub within : (i : ℕ) → T (has left i) → T (has among i)

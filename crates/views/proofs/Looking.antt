@@ -17,7 +17,7 @@ use Rattle.store.specs.View.{IsView}
 use Rattle.store.proofs.Missing.{MetAt, missing-none, missing-found}
 use Rattle.views.proofs.Tests.{has-as}
 
--- at key k the search has yet to look at the versions `left`: all are lacking, and each that is wanted and lacking is among them
+-- for proofs alone: at key k the search has yet to look at the versions `left`: all are lacking, and each that is wanted and lacking is among them
 pub record Looking (s : Store) (want : Rule) (u : View) (k left : ℕ) : Type 0 where
   pub word : left < 2 ^ 64
   pub within : (i : ℕ) → T (has left i) → (i < count s k) × (¬ T (has (u k) i))

@@ -1,58 +1,38 @@
 -- The view {0} at each key is a view of every store of a run, and holds the opening transaction alone. Assumes nothing.
-use Prim.Native.Nat.{ℕ, _+_, _^_, _≤_, _<_}
+use Prim.Native.Nat.{ℕ, _+_, _≤_, _<_}
 use mathlib.Core.Path.{_≡_, sym, ap, _∙_, subst}
 use mathlib.Core.List.{List}
 use mathlib.Core.Option.{none}
 use native.Mathlib.Omega.{arith}
-use native.Mathlib.Decide.{decLt}
-use lib.Dec.{T, ltb, lt→ltb, ltb→lt, not-T, lit<}
+use lib.Dec.{T, ltb, lt→ltb, ltb→lt, lit<}
 use lib.ListN.{replicate, getD-replicate}
-use Rattle.search.specs.Choose.{choose}
-use Rattle.search.proofs.Choose.{choose-yes, choose-no}
+use Rattle.search.proofs.Choose.{choose-yes}
 use Rattle.sets.specs.Set.{Set, has}
-use Rattle.sets.proofs.Laws.{has-none, has-lt}
+use Rattle.sets.proofs.Laws.{has-lt}
 use Rattle.dependencies.specs.History.{Holds}
 use Rattle.store.specs.Limits.{maxKeys}
-use Rattle.store.specs.Store.{View, Store, count, version}
+use Rattle.store.specs.Store.{View, Store, openingView, count, version}
 use Rattle.store.specs.History.{Wrote, history, held}
 use Rattle.store.specs.View.{IsView}
 use Rattle.store.specs.Sound.{SoundStore}
+use Rattle.store.proofs.Sound.{opening-mask, opening-word, opening-zeroth, opening-beyond}
 use Rattle.growth.specs.Ordered.{Ordered}
 use Rattle.growth.proofs.Ordered.{opening-wrote-first}
 use Rattle.store.specs.Refusal.{badMask}
 use Rattle.state.specs.Keeps.{IsSet}
 use Rattle.views.specs.Viewed.{NewMasks}
-use Rattle.views.proofs.Tests.{has-as}
 use Rattle.views.proofs.Codes.{mask-holds}
-
--- "each client's view is {0} at each key"
-abbrev pub openingView : ℕ → View
-openingView keys k = choose (ltb k keys) 1 0
 
 module _ (keys k : ℕ) where
   one-there : k < keys → openingView keys k ≡ 1
   one-there l = choose-yes (ltb k keys) 1 0 (lt→ltb k keys l)
 
-  none-beyond : keys ≤ k → openingView keys k ≡ 0
-  none-beyond l = choose-no (ltb k keys) 1 0 (not-T (ltb k keys) (λ t. let b : k < keys = ltb→lt k keys t in omega arith))
-
   -- it holds version 0 of the keys and nothing else
   only-zero : (i : ℕ) → T (has (openingView keys k) i) → (k < keys) × (i ≡ 0)
-  only-zero i t = go (decLt k keys)
-    where
-      go : Dec (k < keys) → (k < keys) × (i ≡ 0)
-      go (yes l) = (l, let b : i < 1 = has-lt 1 1 i (lit< tt) (has-as i (one-there l) t) in omega arith)
-      go (no n) = absurd (has-none i (has-as i (none-beyond (omega arith)) t))
+  only-zero i t = let m = opening-mask (ltb k keys) i t in (ltb→lt k keys (m .0), omega (arith, m .1))
 
   zero-there : k < keys → T (has (openingView keys k) 0)
-  zero-there l = has-as 0 (sym (one-there l)) tt
-
-  opening-word : openingView keys k < 2 ^ 64
-  opening-word = go (decLt k keys)
-    where
-      go : Dec (k < keys) → openingView keys k < 2 ^ 64
-      go (yes l) = rw (one-there l) (lit< tt)
-      go (no n) = let e = none-beyond (omega arith) in rw e (lit< tt)
+  zero-there l = opening-zeroth (ltb k keys) (lt→ltb k keys l)
 
 module _ (s : Store) (sound : SoundStore s) (o : Ordered s) where
   -- version 0 of a key is by the opening transaction
@@ -64,8 +44,8 @@ module _ (s : Store) (sound : SoundStore s) (o : Ordered s) where
 
   pub opening-view : IsView s (openingView (s .keys))
   opening-view = record {
-    word = opening-word (s .keys);
-    beyond = none-beyond (s .keys);
+    word = λ k. opening-word (ltb k (s .keys));
+    beyond = λ k. opening-beyond k (s .keys);
     opened = zero-there (s .keys);
     exist = λ k i x. let z = only-zero (s .keys) k i x in let p : 0 < count s k = sound .some-version k (z .0) in let e : i ≡ 0 = z .1 in omega arith;
     whole = λ t k i l j x w v.

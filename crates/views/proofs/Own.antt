@@ -48,7 +48,7 @@ module _ {all full free : ℕ} (e : all ≡ below perKey) (f : free ≡ without 
 
 -- ---- the store after the commit
 
--- nothing of a key is missing
+-- for proofs alone: nothing of a key is missing
 abbrev pub OwnMet : Store → View → Commit → Key → Type 0
 OwnMet s u c = MetAt (update s u c) (wrote (update s u c) (nextNumber s)) (c .viewAfter)
 

@@ -1,14 +1,10 @@
 -- A view after a commit that is the view before and the versions that the commit appends: in the store, and in the words that the code has.
 -- Assumes nothing.
-use Prim.Native.Nat.{ℕ, _+_, _*_, _%_, _^_, _<_}
-use mathlib.Core.Path.{_≡_}
-use mathlib.Core.List.{List}
-use lib.ListN.{getD}
+use Prim.Native.Nat.{_+_, _*_, _%_, _^_}
 use Rattle.search.specs.Choose.{choose}
-use Rattle.sets.specs.Set.{Set, has, union}
+use Rattle.sets.specs.Set.{Set, has}
 use Rattle.store.specs.Store.{Key, View, Store, Commit}
 use Rattle.growth.specs.Views.{WithOwn}
-use Rattle.state.specs.Places.{fullPlace}
 
 -- ---- in the store
 
@@ -21,8 +17,3 @@ AddsOwn s u c = WithOwn s c u (c .viewAfter)
 -- the version that is appended to key k, where the ranks have a write of it (2 * k + 1): the next after those of the key's full mask
 unfoldable pub ownMask : Set → Set → Key → Set
 ownMask full ranks k = choose (has ranks (2 * k + 1)) ((full + 1) % 2 ^ 64) 0
-
--- at each key below n the mask is the one at `base` and the version that is appended
-unfoldable pub OwnBelow : List ℕ → List ℕ → ℕ → List ℕ → Set → ℕ → Type 0
-OwnBelow fresh views base keys ranks n =
-    (k : Key) → k < n → getD fresh k 0 ≡ union (getD views (base + k) 0) (ownMask (getD keys (fullPlace k) 0) ranks k)

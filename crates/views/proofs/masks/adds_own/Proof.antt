@@ -4,8 +4,7 @@ use mathlib.Core.Path.{_≡_}
 use mathlib.Core.Logic.{_↔_}
 use native.Mathlib.Omega.{arith}
 use borrow.Author.Needs.{needs}
-use Rattle.views.specs.Own.{OwnBelow}
-use Rattle.views.proofs.AddsOwn.{own-none, own-more, adds-own-answer}
+use Rattle.views.proofs.AddsOwn.{OwnBelow, own-none, own-more, adds-own-answer}
 use Rattle.views.proofs.masks.adds_own.Statement.{statement}
 use Rattle.views.proofs.masks.adds_own.Tie as tie
 
