@@ -73,6 +73,7 @@ pub fn one_record(
                 operations,
                 masks,
             };
+            let next = made + 1;
             commit_to(
                 file,
                 at,
@@ -88,7 +89,7 @@ pub fn one_record(
                 values,
                 fresh,
                 n,
-                CommitNumber(made + 1),
+                CommitNumber(next),
             )
         }
     }

@@ -78,9 +78,7 @@ kept c =
         of-commits = commits .commits .given ∙ l .2 .of-commits;
         of-links = links .links .given ∙ l .2 .of-links;
       },
-      values .values .given ∙ l .3 .0,
-      fresh .fresh .given ∙ l .3 .1,
-      verdicts .verdicts .given ∙ l .3 .2,
+      (values .values .given ∙ l .3 .0, fresh .fresh .given ∙ l .3 .1, verdicts .verdicts .given ∙ l .3 .2),
     )
 
 -- ---- the needs

@@ -28,9 +28,9 @@ shift-to-requires c κs =
 enum-known-r-2 : tie.Need-enum-known-r-2
 enum-known-r-2 c = search needs
 
-add-commit-to : tie.Need-add-commit-to
-add-commit-to c =
-    let commit = c .before .before .before .before .before .before .before .before .before .before .before in
+add-next : tie.Need-add-next
+add-next c =
+    let commit = c .before in
     let (below, masks, operations, fit, room) = subst (Readable _ _ _) (commit .r2 .given .1) (before-commit commit .pre .0 .2) in
     record { fits = omega arith }
 
@@ -106,7 +106,7 @@ one-record-spec =
     enum-known-r
     shift-to-requires
     enum-known-r-2
-    add-commit-to
+    add-next
     commit-to-requires
     same-length
     same-length-2
