@@ -72,6 +72,7 @@ run-all-requires c κs =
     let k = started c .keeps in (
       omega (arith, w .some-key, w .few-keys, w .few-clients, w .few-records, begun c .pre .0 .1, begun c .pre .0 .2),
       (
+        omega arith,
         (
           record {
             of-versions = k .in-versions .room;
@@ -82,11 +83,8 @@ run-all-requires c κs =
             of-commits = k .in-commits .room;
             of-links = k .in-links .room;
           },
-          omega arith,
-          omega arith,
-          omega arith,
+          (w .entries, started c),
         ),
-        (w .entries, started c),
       ),
     )
 
