@@ -1,6 +1,8 @@
 -- `taking::take_file` meets its contract: nothing is asked of the bytes of a file. Assumes nothing.
+use mathlib.Core.Path.{sym, ap, _∙_}
 use denote.Ref.{now}
 use Rattle.endian.specs.Endian.{Bytes}
+use Rattle.trace.specs.Result.{refused}
 use Rattle.taking.specs.Taking.{TakingSays}
 use Rattle.taking.proofs.InForm.{whole-length, whole-of, misshapen-of}
 use borrow.Author.Needs.{needs}
@@ -12,6 +14,9 @@ form-of-requires c κs = search needs
 
 enum-known-code : tie.Need-enum-known-code
 enum-known-code c = search needs
+
+of-record-requires : tie.Need-of-record-requires
+of-record-requires c κs = search needs
 
 enum-known-h : tie.Need-enum-known-h
 enum-known-h c = search needs
@@ -27,7 +32,8 @@ take-records-requires c κs =
 
 returns : tie.Need-returns
 unfolding TakingSays
-returns c = misshapen-of _ (c .before .before .before .form-of .ensures) (c .before .code .given .1)
+returns c =
+    misshapen-of _ (c .before .before .before .before .form-of .ensures) (c .before .before .code .given .1) ∙ ap refused (sym (c .of-record .ensures))
 
 same-length : tie.Need-same-length
 same-length c = search needs
@@ -47,6 +53,7 @@ take-file-spec =
     (tie.spec
     form-of-requires
     enum-known-code
+    of-record-requires
     enum-known-h
     take-records-requires
     returns

@@ -1,9 +1,10 @@
 -- `judging::ending::finish` meets its contract: the image's size is what `image::size` says, so the buffer is too short exactly where code 15 is due. Assumes nothing.
 use Prim.Native.Nat.{_≤_, _<_}
-use mathlib.Core.Path.{_≡_, _∙_, subst}
+use mathlib.Core.Path.{_≡_, ap, _∙_, subst}
 use lib.ListN.{length}
 use denote.Ref.{now}
 use Rattle.store.specs.Image.{image}
+use Rattle.trace.specs.Result.{refused}
 use Rattle.answer.specs.Answer.{finalStore}
 use Rattle.judging.proofs.Answered.{short-answer, judged-answer, told-report}
 use borrow.Author.Needs.{needs}
@@ -13,14 +14,17 @@ use Rattle.judging.proofs.ending.finish.Tie as tie
 size-requires : tie.Need-size-requires
 size-requires c κs = search needs
 
+of-record-requires : tie.Need-of-record-requires
+of-record-requires c κs = search needs
+
 returns : tie.Need-returns
 returns c =
-    let sized = c .before in
+    let sized = c .before .before in
     let buffer = now (sized .before .before .before .before .before .args .buffer) in
     λ bytes t h.
     let e : sized .size .result ≡ length (image (finalStore t)) = sized .size .ensures .1 (finalStore t) (h .in-keys) (h .all-keys) (h .all-commits) in
     let a = short-answer bytes buffer t (h .accepted) (subst (λ x. length buffer < x) e (search needs)) in
-    (a .said, a .drawn)
+    (ap refused (c .of-record .ensures) ∙ a .said, a .drawn)
 
 write-requires : tie.Need-write-requires
 write-requires c κs = search needs
@@ -40,4 +44,4 @@ returns-2 c =
     )
 
 pub finish-spec : {M : Type 1} → statement M
-finish-spec = tie.close (tie.spec size-requires returns write-requires same-length returns-2)
+finish-spec = tie.close (tie.spec size-requires of-record-requires returns write-requires same-length returns-2)
