@@ -6,8 +6,8 @@ use mathlib.Core.List.{List, [], _∷_, _++_, append-assoc, append-nil}
 use native.Mathlib.Omega.{arith}
 use lib.ListN.{length, set, length-append}
 use Rattle.endian.specs.Endian.{putAt}
+use Rattle.endian.proofs.Put.{put-next}
 use Rattle.trace.specs.Result.{Result}
-use Rattle.image.proofs.Whole.{put-next}
 use Rattle.judging.specs.Answers.{Told, Judged}
 use Rattle.judging.specs.Plain.{verdictWords, allVerdictWords, answerWords, answerCode}
 
