@@ -19,8 +19,8 @@ pub fn proved() -> Option<(&'static str, JudgeFn)> {
 /// The code, and above it the length of the image.
 #[cfg(feature = "proved")]
 fn judge(file: &[u8], image: &mut [u8]) -> u64 {
-    let mut words = [0; judging::WORDS];
-    let code = judging::judge_words(file, image, &mut words);
+    let mut words = [0; consistency::JUDGE_WORDS];
+    let code = consistency::judge_words(file, image, &mut words);
     if code == 0 {
         words[3] << 8
     } else {

@@ -2,7 +2,7 @@
 //! words, and the same bytes in the lent buffer, whatever its length.
 
 use crate::{answer, Answer, Outcome, Verdict};
-use judging::{judge, judge_words, Key, Verdicts, VersionNumber, WORDS};
+use consistency::{judge, judge_words, Key, Refusal, Verdicts, VersionNumber, JUDGE_WORDS};
 
 /// Long enough for every image.
 pub const LONG: usize = 17_000;
@@ -24,10 +24,10 @@ pub fn compare(name: &str, file: &[u8], outcome: &Outcome, length: usize) -> Ans
     let due = answer(outcome, &mut due_image);
     let mut due_words = words_of(&due);
     let due_code = due_words[0];
-    due_words.resize(WORDS + BEHIND, UNTOUCHED);
+    due_words.resize(JUDGE_WORDS + BEHIND, UNTOUCHED);
 
     let mut image = pattern(length);
-    let mut words = [UNTOUCHED; WORDS + BEHIND];
+    let mut words = [UNTOUCHED; JUDGE_WORDS + BEHIND];
     let code = judge_words(file, &mut image, &mut words);
     assert_eq!(code, due_code, "{name}, buffer of {length}");
     assert_eq!(words[..], due_words, "{name}, buffer of {length}");
@@ -57,11 +57,11 @@ pub fn lengths(outcome: &Outcome) -> Vec<usize> {
     lengths
 }
 
-/// An answer of the model as words: `crates/judging/specs/Plain.antt`.
+/// An answer of the model as words: `crates/words/specs/Layout.antt`.
 fn words_of(answer: &Answer) -> Vec<u64> {
     match *answer {
         Answer::Refused(refusal) => {
-            let named = [refusal.record, refusal.key, refusal.version];
+            let named = [refusal.record, refusal.key, refusal.version, 0];
             let mut words = vec![refusal.code.into()];
             words.extend(named.map(|number| number as u64));
             words
@@ -87,17 +87,17 @@ fn words_of(answer: &Answer) -> Vec<u64> {
 }
 
 /// An answer of the model in the types for callers in Rust.
-fn told_of(answer: &Answer) -> judging::Answer {
+fn told_of(answer: &Answer) -> consistency::Answer {
     match *answer {
-        Answer::Refused(refusal) => judging::Answer::Refused {
+        Answer::Refused(refusal) => consistency::Answer::Refused(Refusal {
             code: refusal.code,
             record: refusal.record,
             key: Key(refusal.key),
             version: VersionNumber(refusal.version),
-        },
+        }),
         Answer::Judged(report) => {
             let [mr, mw, ryw, wfr, cc, ua, psi, cp, si, ser] = report.verdicts.map(told_verdict);
-            judging::Answer::Judged {
+            consistency::Answer::Judged {
                 verdicts: Verdicts {
                     mr,
                     mw,
@@ -118,16 +118,16 @@ fn told_of(answer: &Answer) -> judging::Answer {
     }
 }
 
-fn told_verdict(verdict: Verdict) -> judging::Verdict {
+fn told_verdict(verdict: Verdict) -> consistency::Verdict {
     match verdict {
-        Verdict::Accepted => judging::Verdict::Accepted,
+        Verdict::Accepted => consistency::Verdict::Accepted,
         Verdict::Refused {
             record,
             clause,
             key,
             version,
             ..
-        } => judging::Verdict::Refused {
+        } => consistency::Verdict::Refused {
             record,
             clause,
             key: Key(key),

@@ -76,7 +76,7 @@ fn from_c() {
         ])
         .arg(&program)
         .arg(at("bindings/c/keeps_si.c"))
-        .arg(at("target/staticlib/libjudging.a")));
+        .arg(at("target/staticlib/libconsistency.a")));
     check(Command::new(program));
 }
 
@@ -102,19 +102,18 @@ fn the_readme_has_the_examples() {
 
 #[test]
 fn the_numbers_of_the_header() {
-    let header = text(&at("bindings/c/judging.h"));
+    let header = text(&at("bindings/c/consistency.h"));
     let has = |line: String| assert!(header.contains(&line), "{line}");
-    has(format!(
-        "#define JUDGING_LONGEST_FILE {}\n",
-        judging::LONGEST_FILE
-    ));
-    has(format!(
-        "#define JUDGING_LONGEST_IMAGE {}\n",
-        judging::LONGEST_IMAGE
-    ));
-    has(format!("#define JUDGING_WORDS {}\n", judging::WORDS));
+    let defines = |name: &str, number: usize| {
+        has(format!("#define CONSISTENCY_{name} {number}\n"));
+    };
+    defines("LONGEST_FILE", consistency::LONGEST_FILE);
+    defines("LONGEST_IMAGE", consistency::LONGEST_IMAGE);
+    defines("NO_ROOM", consistency::NO_ROOM as usize);
+    defines("REFUSAL_WORDS", consistency::REFUSAL_WORDS);
+    defines("JUDGE_WORDS", consistency::JUDGE_WORDS);
     let places: Vec<String> = (0..LEVELS.len())
-        .map(|place| format!("    JUDGING_{} = {}", LEVELS[place].name, 4 + 4 * place))
+        .map(|place| format!("    CONSISTENCY_{} = {}", LEVELS[place].name, 4 + 4 * place))
         .collect();
     has(format!("enum {{\n{}\n}};\n", places.join(",\n")));
 }

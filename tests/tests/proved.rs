@@ -1,7 +1,7 @@
 //! The proved judge against the model on generated files, each with image
 //! buffers of many lengths.
 
-use judging::{judge_words, WORDS};
+use consistency::{judge_words, JUDGE_WORDS, NO_ROOM};
 use model::beside::{compare, lengths};
 use model::files::files;
 use model::generate::{case, file};
@@ -59,10 +59,10 @@ fn every_length_of_the_buffer() {
 #[test]
 fn without_room_for_the_words_nothing_is_judged() {
     for (name, bench) in files() {
-        for room in 0..WORDS {
+        for room in 0..JUDGE_WORDS {
             let mut image = vec![0xA5; 17_000];
             let mut words = vec![7; room];
-            assert_eq!(judge_words(&bench.bytes, &mut image, &mut words), 255);
+            assert_eq!(judge_words(&bench.bytes, &mut image, &mut words), NO_ROOM);
             assert!(words.iter().all(|&word| word == 7), "{name}");
             assert!(image.iter().all(|&byte| byte == 0xA5), "{name}");
         }

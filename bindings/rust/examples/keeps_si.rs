@@ -1,12 +1,12 @@
 //! Did the store of the trace on standard input keep snapshot isolation?
-use judging::{judge, Answer, Verdict, LONGEST_IMAGE};
+use consistency::{judge, Answer, Verdict, LONGEST_IMAGE};
 use std::io::{stdin, Read};
 
 fn main() {
     let mut file = Vec::new();
     stdin().read_to_end(&mut file).expect("a trace file");
     match judge(&file, &mut [0; LONGEST_IMAGE]) {
-        Answer::Refused { code, record, .. } => println!("code {code} at record {record}"),
+        Answer::Refused(why) => println!("code {} at record {}", why.code, why.record),
         Answer::Judged { verdicts, .. } => match verdicts.si {
             Verdict::Accepted => println!("yes"),
             Verdict::Refused { record, .. } => println!("no, see record {record}"),

@@ -1,147 +1,19 @@
-//! The proved judge of trace files, for callers in Rust.
+//! The proved calls on trace files, for callers in Rust.
 //!
-//! The types are those of `crates/judging/src/lib.rt`, which says what is
-//! proved of an answer. Nothing is asked of a caller: any bytes get an answer,
-//! and an image buffer may have any length. The judge keeps nothing between
-//! calls and allocates nothing, so that several threads may call it at once.
+//! `crates/consistency/src/lib.rt` says what is proved of each call; the types
+//! are those of the proved crates below it. Nothing is asked of a caller: any
+//! bytes get an answer, and a buffer may have any length. A call keeps nothing
+//! and allocates nothing, so that several threads may call at once.
+
+mod archive;
+mod judging;
+mod refusal;
+
+pub use judging::{judge, judge_words, Answer, Verdict, Verdicts, JUDGE_WORDS};
+pub use refusal::{Key, Refusal, VersionNumber, NO_ROOM, REFUSAL_WORDS};
 
 /// The most bytes that a trace file may have; a longer one is code 1.
 pub const LONGEST_FILE: usize = 65_536;
 
 /// No image is longer; a buffer of this length is never too short.
 pub const LONGEST_IMAGE: usize = 16_960;
-
-/// The words of an answer of [`judge_words`].
-pub const WORDS: usize = 44;
-
-/// The number of a key, from 0.
-#[derive(Clone, Copy, PartialEq, Eq, Debug)]
-pub struct Key(pub usize);
-
-/// The place of a version in the list of its key, from 0.
-#[derive(Clone, Copy, PartialEq, Eq, Debug)]
-pub struct VersionNumber(pub usize);
-
-/// What a trace file is answered with: a bench code from 1 to 15 with what it
-/// names, 0 where it names nothing; or ten verdicts, with the image in the
-/// lent buffer.
-#[allow(clippy::large_enum_variant)] // plain data, copied freely
-#[derive(Clone, Copy, PartialEq, Eq, Debug)]
-pub enum Answer {
-    Refused {
-        code: u8,
-        record: usize,
-        key: Key,
-        version: VersionNumber,
-    },
-    Judged {
-        verdicts: Verdicts,
-        records: usize,
-        commits: usize,
-        image_length: usize,
-    },
-}
-
-/// The verdicts of the ten levels, in report order.
-#[derive(Clone, Copy, PartialEq, Eq, Debug)]
-pub struct Verdicts {
-    pub mr: Verdict,
-    pub mw: Verdict,
-    pub ryw: Verdict,
-    pub wfr: Verdict,
-    pub cc: Verdict,
-    pub ua: Verdict,
-    pub psi: Verdict,
-    pub cp: Verdict,
-    pub si: Verdict,
-    pub ser: Verdict,
-}
-
-/// What a level says of a trace: it accepts, or it is refused at the record of
-/// the first commit that fails it, by a clause that misses a version of a key.
-#[derive(Clone, Copy, PartialEq, Eq, Debug)]
-pub enum Verdict {
-    Accepted,
-    Refused {
-        record: usize,
-        clause: u8,
-        key: Key,
-        version: VersionNumber,
-    },
-}
-
-/// Judges one trace file. Where it is judged, the image of its store stands at
-/// the start of `image`; no other byte of `image` changes, and none at all
-/// where the file is refused.
-pub fn judge(file: &[u8], image: &mut [u8]) -> Answer {
-    let mut words = [0; WORDS];
-    let code = judge_words(file, image, &mut words);
-    if code != 0 {
-        return Answer::Refused {
-            code: code as u8,
-            record: words[1] as usize,
-            key: Key(words[2] as usize),
-            version: VersionNumber(words[3] as usize),
-        };
-    }
-    let verdict = |level: usize| verdict_of(&words[4 + 4 * level..8 + 4 * level]);
-    Answer::Judged {
-        verdicts: Verdicts {
-            mr: verdict(0),
-            mw: verdict(1),
-            ryw: verdict(2),
-            wfr: verdict(3),
-            cc: verdict(4),
-            ua: verdict(5),
-            psi: verdict(6),
-            cp: verdict(7),
-            si: verdict(8),
-            ser: verdict(9),
-        },
-        records: words[1] as usize,
-        commits: words[2] as usize,
-        image_length: words[3] as usize,
-    }
-}
-
-/// Clause, record, key and version; clause 0 where the level accepts.
-fn verdict_of(words: &[u64]) -> Verdict {
-    if words[0] == 0 {
-        return Verdict::Accepted;
-    }
-    Verdict::Refused {
-        clause: words[0] as u8,
-        record: words[1] as usize,
-        key: Key(words[2] as usize),
-        version: VersionNumber(words[3] as usize),
-    }
-}
-
-/// The same with the answer as words at the start of `words`, which
-/// `bindings/c/judging.h` lays out, and its code, which is 0 where the file was
-/// judged. Where `words` has less than 44 nothing is judged or written, and the
-/// code is 255.
-pub fn judge_words(file: &[u8], image: &mut [u8], words: &mut [u64]) -> u64 {
-    // It reads the file and writes the other two, all within their lengths.
-    unsafe {
-        judge_file(
-            file.as_ptr(),
-            file.len(),
-            image.as_mut_ptr(),
-            image.len(),
-            words.as_mut_ptr(),
-            words.len(),
-        )
-    }
-}
-
-extern "C" {
-    fn judge_file(
-        file: *const u8,
-        file_length: usize,
-        image: *mut u8,
-        image_length: usize,
-        words: *mut u64,
-        words_length: usize,
-    ) -> u64;
-}

@@ -4,7 +4,7 @@ use Prim.Native.Nat.{ℕ, _^_, _≤_, _<_}
 use native.Mathlib.Omega.{arith}
 use native.Mathlib.Decide.{decLt}
 use lib.Dec.{T}
-use Rattle.sets.specs.Set.{has, below}
+use Rattle.sets.specs.Set.{has, below, width}
 use Rattle.sets.proofs.Laws.{has-large, has-below, below-has, below-word, has-highest, highest-most}
 use Rattle.store.specs.Store.{Key, View, Store, count, nextNumber}
 use Rattle.store.specs.Update.{newest}
@@ -20,7 +20,7 @@ pub full-holds-all : (s : Store) (k : Key) → HoldsAll s (fullView s) k
 full-holds-all s k i l = has-below (count s k) i l
 
 -- a full view is a view, where a word has room for all versions
-pub full-view : (s : Store) → SoundStore s → nextNumber s ≤ 64 → IsView s (fullView s)
+pub full-view : (s : Store) → SoundStore s → nextNumber s ≤ width → IsView s (fullView s)
 full-view s h room = record {
   word = λ k. below-word (count s k) (omega (arith, h .few k));
   beyond = λ k l. ap below (none-beyond k l (decLt 0 (count s k)));

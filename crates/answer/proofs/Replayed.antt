@@ -10,6 +10,7 @@ use lib.ListN.{length}
 use Rattle.search.specs.Choose.{isSome}
 use Rattle.search.proofs.Tests.{isSome-some}
 use Rattle.sets.specs.Set.{below}
+use Rattle.store.specs.Limits.{numbers}
 use Rattle.store.specs.Store.{Key, VersionNumber, CommitNumber, Value, Version, View, Store, Configuration, count, version, nextNumber, read, write, Commit, Event, shift, commit}
 use Rattle.store.specs.Update.{valueOf, reads, newest, noteRead, append, atNumber, update, viewBefore, storeAfter, step, final}
 use Rattle.store.specs.History.{Wrote, Appears, held}
@@ -62,7 +63,7 @@ view-fits : {s : Store} {u : View} → IsView s u → FitsView (s .keys) u
 view-fits v = record { word = v .word; beyond = v .beyond }
 
 module _ (g r : Configuration) (c : Commit) (same : g .store ≡ r .store) (sound-g : Sound g) (sound-r : Sound r)
-    (fits-g : WithinKeys (g .store .keys) c) (legal : LegalCommit g c) (ser : Passes SER g c) (room-g : nextNumber (g .store) < 64) where
+    (fits-g : WithinKeys (g .store .keys) c) (legal : LegalCommit g c) (ser : Passes SER g c) (room-g : nextNumber (g .store) < numbers) where
   abbrev s : Store
   s = r .store
 
@@ -76,8 +77,8 @@ module _ (g r : Configuration) (c : Commit) (same : g .store ≡ r .store) (soun
   fits : WithinKeys (s .keys) c
   fits = subst (λ (x : Store). WithinKeys (x .keys) c) same fits-g
 
-  room : nextNumber s < 64
-  room = subst (λ (x : Store). nextNumber x < 64) same room-g
+  room : nextNumber s < numbers
+  room = subst (λ (x : Store). nextNumber x < numbers) same room-g
 
   -- the shift is legal
   full : IsView s (fullView s)
@@ -176,7 +177,7 @@ pub record Replays (g r : Configuration) (es : List Event) : Type 0 where
   pub same-store : final g es .store ≡ final r (replayEvents r es) .store
 
 -- from equal stores on, by the records in turn
-pub replays : (g r : Configuration) (es : List Event) → g .store ≡ r .store → Sound g → Sound r → nextNumber (g .store) + commitsIn es ≤ 64
+pub replays : (g r : Configuration) (es : List Event) → g .store ≡ r .store → Sound g → Sound r → nextNumber (g .store) + commitsIn es ≤ numbers
     → LegalRun g es → Each (Passes SER) g es → Replays g r es
 unfolding replayEvents final commitsIn step update
 replays g r [] same h h′ few done p = record { fits = tt; legal = done; passes = λ l. tt; same-store = same }

@@ -1,4 +1,4 @@
--- A commit read from its record: its masks and operations in the arrays. Assumes nothing.
+-- A commit read from its record: its operations in the arrays. Assumes nothing.
 use Prim.Native.Nat.{ℕ, zero, suc, _+_, _*_, _/_, _%_, _^_, _≤_, _<_}
 use mathlib.Core.Path.{_≡_, refl, sym, ap, _∙_, subst}
 use mathlib.Core.Bool.{Bool, true, false, _&&_}
@@ -7,13 +7,12 @@ use mathlib.Core.Option.{Option, some, none}
 use mathlib.Core.List.{List, [], _∷_}
 use native.Mathlib.Omega.{arith}
 use native.Mathlib.Nat.{add-zero}
-use lib.Dec.{T, eqb, ltb, lt→ltb}
+use lib.Dec.{T, eqb}
 use lib.ListN.{length, getD}
 use Rattle.search.specs.Choose.{choose, when}
-use Rattle.search.proofs.Choose.{choose-yes, choose-ind}
+use Rattle.search.proofs.Choose.{choose-ind}
 use Rattle.search.proofs.Tests.{T?, T-true, some-none}
 use Rattle.sets.specs.Set.{Set, has}
-use Rattle.endian.specs.Endian.{leAt}
 use Rattle.store.specs.Limits.{maxKeys, maxClients}
 use Rattle.store.specs.Store.{Value, View, Store, Configuration, Access, read, write, Operation, Commit}
 use Rattle.store.specs.Update.{sameAccess, valueOf, viewBefore}
@@ -22,18 +21,9 @@ use Rattle.trace.specs.Format.{viewAt}
 use Rattle.trace.specs.Encode.{accessNumber}
 use Rattle.trace.specs.WellFormed.{rank, Rise, FitsCommit}
 use Rattle.trace.proofs.Fits.{commit-fits}
-use Rattle.state.specs.Keeps.{KeepsMasks, KeepsOperations}
+use Rattle.state.specs.Keeps.{KeepsOperations}
 use Rattle.commits.specs.Codes.{EarlyGiven}
 use Rattle.commits.specs.Records.{ValuesFit, Recorded}
-
--- the masks of a record, as they were read
-pub masks-read : (file : List ℕ) (masks n : ℕ) (fresh : List ℕ) → length fresh ≡ maxKeys → ((k : ℕ) → k < n → getD fresh k 0 ≡ leAt file (masks + 8 * k) 8)
-    → KeepsMasks n (viewAt file masks n) fresh
-unfolding viewAt
-masks-read file masks n fresh long same = record {
-  room = long;
-  masks = λ k l. same k l ∙ sym (choose-yes (ltb k n) (leAt file (masks + 8 * k) 8) 0 (lt→ltb k n l));
-}
 
 -- ---- values
 

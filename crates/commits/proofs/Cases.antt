@@ -34,7 +34,7 @@ use Rattle.state.specs.Keeps.{IsSet, CommitOf, KeepsSessions, KeepsViews}
 use Rattle.state.proofs.Sets.{isSet-as}
 use Rattle.views.specs.Rules.{StoreAndView}
 use Rattle.views.specs.Rows.{Kept}
-use Rattle.shifts.specs.Outcomes.{Masks}
+use Rattle.views.specs.Viewed.{NewMasks}
 use Rattle.shifts.proofs.Replaced.{commit-replaces}
 use Rattle.commits.specs.Codes.{earlyRefusal, lateRefusal, EarlyGiven, LateGiven}
 
@@ -133,7 +133,7 @@ module _ (g : Configuration) (c : Commit) (values versions keys fresh views seen
   pub late-holds : IsSet (getD seen client 0) (D.Holds (history (g .store)) (held (viewBefore g c)))
   late-holds = subst (λ (d : ℕ). IsSet (getD seen client 0) (D.Holds (history (g .store)) (held (g .views d)))) (sym (l .client-is)) (l .in-views .holds client b)
 
-  pub late-masks : Masks (storeAfter g c) (viewBefore g c) (c .viewAfter) n versions keys views (maxKeys * client) (getD seen client 0) fresh
+  pub late-masks : NewMasks (storeAfter g c) (viewBefore g c) (c .viewAfter) n versions keys views (maxKeys * client) (getD seen client 0) fresh
   late-masks = record {
     arrays = record {
       number = keys-after (g .store) (viewBefore g c) c (l .made) ∙ l .keys-are;

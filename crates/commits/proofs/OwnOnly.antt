@@ -17,7 +17,7 @@ use Rattle.state.proofs.Accesses.{left-none, left-some}
 use Rattle.state.proofs.Sets.{isSet-as, isSet-none, isSet-single}
 use Rattle.views.specs.Rows.{Kept}
 use Rattle.views.specs.Own.{AddsOwn}
-use Rattle.views.proofs.Codes.{writes-is}
+use Rattle.state.proofs.Ranks.{writes-rank}
 use Rattle.views.proofs.OwnView.{own-good, own-not-stray, own-holds}
 use Rattle.commits.specs.Codes.{lateRefusal, LateGiven}
 use Rattle.commits.proofs.Cases.{late-none, late-holds, late-kept}
@@ -27,12 +27,12 @@ use Rattle.commits.proofs.Cases.{late-none, late-holds, late-kept}
 -- the set of it where the commit writes something, and the empty one where it does not
 module _ (ranks : Set) (n me : ℕ) {left : Set} (keys : Left ranks 1 n 0 left) (c : Commit) (values : List ℕ) (h : KeepsOperations c ranks values) (small : (k : ℕ) → T (writes c k) → k < n) where
   pub number-none : left ≡ 0 → IsSet 0 (λ t. (t ≡ me) × Writes c)
-  number-none e = isSet-none (λ t (_, (k, w)). left-none keys e k (omega arith) (small k w) (subst T (writes-is c ranks values h k) w))
+  number-none e = isSet-none (λ t (_, (k, w)). left-none keys e k (omega arith) (small k w) (subst T (writes-rank h k) w))
 
   pub number-alone : {set : Set} → set ≡ single me → ¬ (left ≡ 0) → IsSet set (λ t. (t ≡ me) × Writes c)
   number-alone q x =
       let (k, t) = left-some keys x in
-      rw q (isSet-as _ (λ t′. (λ e. (e, (k, subst T (sym (writes-is c ranks values h k)) t)), λ (e, _). e)) (isSet-single me))
+      rw q (isSet-as _ (λ t′. (λ e. (e, (k, subst T (sym (writes-rank h k)) t)), λ (e, _). e)) (isSet-single me))
 
 -- ---- the view after
 

@@ -1,4 +1,4 @@
--- How long the image and its parts are: by the store, by the judge's full masks, and "At most 16,960 bytes". Assumes nothing.
+-- How long the image and its parts are: by the store, by the judge's full masks, and at most. Assumes nothing.
 use Prim.Native.Nat.{ℕ, zero, suc, _+_, _*_, _≤_, _<_}
 use mathlib.Core.Path.{_≡_, refl, ap, _∙_}
 use mathlib.Core.Logic.{⊎-elim}
@@ -7,15 +7,15 @@ use native.Mathlib.Omega.{arith}
 use native.Mathlib.Nat.{le-of-suc-le-suc, eq-or-lt-of-le}
 use lib.Count.{ones, ones-ones}
 use lib.ListN.{length, getD, length-append}
-use Rattle.sets.specs.Set.{below}
+use Rattle.sets.specs.Set.{below, size}
 use Rattle.endian.specs.Endian.{pieces}
 use Rattle.endian.proofs.Laws.{length-leBytes, length-pieces}
-use Rattle.store.specs.Limits.{maxKeys, maxCommits}
+use Rattle.store.specs.Limits.{maxKeys, maxCommits, perKey, maxImage}
 use Rattle.store.specs.Store.{Key, CommitNumber, Version, Store, count, version}
 use Rattle.store.specs.Image.{versionBytes, commitBytes, keyBytes, imageBody, image}
 use Rattle.store.specs.Sound.{SoundStore}
 use Rattle.state.specs.Keeps.{KeepsKeys}
-use Rattle.image.specs.Parts.{mostBytes, keysSize, wholeSize}
+use Rattle.image.specs.Parts.{keysSize, wholeSize}
 
 -- ---- the parts
 
@@ -44,10 +44,11 @@ length-image s = simp (length-append, length-leBytes, length-commits s (s .commi
 -- ---- by the full masks
 
 -- the full mask of a key with c versions has c members
-pub full-count : (full c : ℕ) → full ≡ below c → ones full ≡ c
+pub full-count : (full c : ℕ) → full ≡ below c → size full ≡ c
+unfolding size
 full-count full c e = ap ones e ∙ ones-ones c
 
-pub keysSize-suc : (keys : List ℕ) (k : ℕ) → keysSize keys (suc k) ≡ keysSize keys k + (4 + 16 * ones (getD keys k 0))
+pub keysSize-suc : (keys : List ℕ) (k : ℕ) → keysSize keys (suc k) ≡ keysSize keys k + (4 + 16 * size (getD keys k 0))
 unfolding keysSize
 keysSize-suc keys k = refl
 
@@ -58,7 +59,7 @@ keysSize-mono keys j (suc n) h =
     ⊎-elim (λ e. omega (arith, ap (keysSize keys) e)) (λ l. omega (arith, keysSize-mono keys j n (le-of-suc-le-suc l), keysSize-suc keys n)) (eq-or-lt-of-le h)
 
 -- a key among the first n has its bytes within theirs
-pub key-within : (keys : List ℕ) (k n : ℕ) → k < n → keysSize keys k + (4 + 16 * ones (getD keys k 0)) ≤ keysSize keys n
+pub key-within : (keys : List ℕ) (k n : ℕ) → k < n → keysSize keys k + (4 + 16 * size (getD keys k 0)) ≤ keysSize keys n
 key-within keys k n h = omega (arith, keysSize-mono keys (suc k) n h, keysSize-suc keys k)
 
 module _ (s : Store) (keys : List ℕ) (kept : KeepsKeys s keys) where
@@ -66,19 +67,19 @@ module _ (s : Store) (keys : List ℕ) (kept : KeepsKeys s keys) where
   unfolding pieces keysSize
   length-keys zero h = refl
   length-keys (suc n) h =
-      let e : ones (getD keys n 0) ≡ count s n = full-count _ _ (kept .full n h) in
+      let e : size (getD keys n 0) ≡ count s n = full-count _ _ (kept .full n h) in
       simp (length-append, length-key, length-keys n (omega arith), e)
 
   pub length-whole : (n commits : ℕ) → s .keys ≡ n → s .commits ≡ commits → wholeSize keys n commits ≡ length (image s)
   length-whole n commits k c = rw (← k, ← c) (omega (arith, length-image s, length-keys (s .keys) (omega arith)))
 
--- ---- "At most 16,960 bytes"
+-- ---- at most
 
 module _ (s : Store) (sound : SoundStore s) (commits : s .commits ≤ maxCommits) where
-  keys-most : (n : ℕ) → length (pieces n (keyBytes s)) ≤ 1028 * n
+  keys-most : (n : ℕ) → length (pieces n (keyBytes s)) ≤ (4 + 16 * perKey) * n
   unfolding pieces
   keys-most zero = omega arith
   keys-most (suc n) = simp (length-append, length-key) (omega (arith, keys-most n, sound .few n))
 
-  pub length-most : s .keys ≤ maxKeys → length (image s) ≤ mostBytes
+  pub length-most : s .keys ≤ maxKeys → length (image s) ≤ maxImage
   length-most keys = omega (arith, length-image s, keys-most (s .keys))

@@ -10,11 +10,10 @@ use Rattle.endian.specs.Endian.{leBytes}
 use Rattle.endian.proofs.Laws.{leBytes-add, leBytes-mod}
 use Rattle.store.specs.Limits.{maxCommits}
 use Rattle.store.specs.Store.{CommitNumber, Version, Store, count, version}
-use Rattle.store.specs.Image.{versionBytes, commitBytes}
+use Rattle.store.specs.Image.{versionBytes, commitBytes, ClientsFit}
 use Rattle.store.specs.Sound.{SoundStore}
 use Rattle.state.specs.Places.{packed, headPlace, readersPlace}
 use Rattle.state.specs.Keeps.{KeepsVersions, KeepsCommits}
-use Rattle.image.specs.Parts.{ClientsFit}
 
 -- a number of m bytes and one of k bytes are a number of m + k bytes
 pub leBytes-joined : (m k low high v : ℕ) → low < 256 ^ m → v ≡ high * 256 ^ m + low → leBytes (m + k) v ≡ leBytes m low ++ leBytes k high
@@ -53,7 +52,7 @@ commit-word s t small =
 
 -- ---- in the arrays
 
--- the writers of a store with at most 63 commits have room in a byte
+-- the writers of a store with no more commits than the limit have room in a byte
 writer-small : (s : Store) (k i : ℕ) → SoundStore s → s .commits ≤ maxCommits → i < count s k → version s k i .writer < 256
 writer-small s k i sound few l = omega (arith, sound .writers (version s k i .writer) k i (l, refl))
 

@@ -1,16 +1,11 @@
--- What the contracts of the image's writer cite besides the image itself: its first 8 bytes, its size from the judge's full masks, and
--- what of a store has to have room in a field. Assumes nothing.
-use Prim.Native.Nat.{ℕ, zero, suc, _+_, _*_, _≤_, _<_}
+-- What the contracts of the image's writer cite besides the image itself: its first 8 bytes, and its size from the judge's full masks.
+-- Assumes nothing.
+use Prim.Native.Nat.{ℕ, zero, suc, _+_, _*_}
 use mathlib.Core.List.{List, _++_}
-use lib.Count.{ones}
 use lib.ListN.{getD}
+use Rattle.sets.specs.Set.{size}
 use Rattle.endian.specs.Endian.{leBytes}
-use Rattle.store.specs.Store.{CommitNumber, Store}
 use Rattle.state.specs.Places.{fullPlace}
-
--- "At most 16,960 bytes"
-abbrev pub mostBytes : ℕ
-mostBytes = 16960
 
 -- "u32 length, keys u8, commits u8, two zeros"
 abbrev pub headBytes : ℕ → ℕ → ℕ → List ℕ
@@ -19,12 +14,8 @@ headBytes whole n commits = leBytes 4 whole ++ (leBytes 1 n ++ (leBytes 1 commit
 -- the first n keys: "Per key: u32 number of versions, then 16 bytes each"; the full mask of a key has a member for each version
 unfoldable pub keysSize : List ℕ → ℕ → ℕ
 keysSize keys zero = 0
-keysSize keys (suc k) = keysSize keys k + (4 + 16 * ones (getD keys (fullPlace k) 0))
+keysSize keys (suc k) = keysSize keys k + (4 + 16 * size (getD keys (fullPlace k) 0))
 
 -- the whole: the first 8 bytes, "Per commit 8 bytes", and the keys
 abbrev pub wholeSize : List ℕ → ℕ → ℕ → ℕ
 wholeSize keys n commits = 8 + 8 * commits + keysSize keys n
-
--- "client u8": the client of each commit has room in a byte
-abbrev pub ClientsFit : Store → Type 0
-ClientsFit s = (t : CommitNumber) → 0 < t → t ≤ s .commits → s .clientOf t < 256

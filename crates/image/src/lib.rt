@@ -1,42 +1,29 @@
 // Writes the image of the store into a lent buffer, from the arrays in which the judge keeps the store (01, The image).
 // The words of the arrays are the rows of the image: a version is its head and its readers, a commit is one word.
 // What a function writes is said of every store that the arrays keep (state's specs/Keeps.antt).
+use state::Key;
 ghost use mathlib.Core.Path.{_≡_};
 ghost use Prim.Native.Nat.{ℕ, suc, _+_, _*_, _≤_, _<_};
-ghost use lib.Count.{ones};
 ghost use lib.ListN.{length};
 ghost use Rattle.endian.specs.Endian.{putAt, pieces};
-ghost use Rattle.store.specs.Limits.{maxKeys, maxCommits};
+ghost use Rattle.store.specs.Limits.{maxKeys, maxCommits, perKey, maxImage};
 ghost use Rattle.store.specs.Store.{Store, count};
-ghost use Rattle.store.specs.Image.{commitBytes, keyBytes, image};
+ghost use Rattle.store.specs.Image.{commitBytes, keyBytes, image, ClientsFit};
 ghost use Rattle.store.specs.Sound.{SoundStore};
-ghost use Rattle.state.specs.Places.{perKey, numbers};
+ghost use Rattle.state.specs.Room.{VersionsRoom, KeysRoom, CommitsRoom};
 ghost use Rattle.state.specs.Keeps.{KeepsVersions, KeepsKeys, KeepsCommits};
-ghost use Rattle.image.specs.Parts.{mostBytes, headBytes, keysSize, wholeSize, ClientsFit};
+ghost use Rattle.image.specs.Parts.{headBytes, keysSize, wholeSize};
 
-// The versions of a key stand in a row of the array.
-const ROW: usize = 64;
-
-// Where the rows of readers begin, behind those of heads.
-const READERS: usize = 1024;
-
-// How many versions a key has: its full mask has a member for each.
-fn version_count(full: u64) -> usize
-    ensures { λ r. ⌜ (r ≡ ones full) × (r ≤ perKey) ⌝ }
-{
-    u64::count_ones(full) as usize
-}
-
-// How many bytes the image of n keys and `count` commits takes.
+// How many bytes the image of n keys and `count` commits takes. The full mask of a key has a member for each of its versions.
 pub fn size(keys: &[u64], n: usize, count: usize) -> usize
-    requires { ⌜ (length (now keys) ≡ 2 * maxKeys) × (n ≤ maxKeys) × (count ≤ maxCommits) ⌝ }
-    ensures { λ r. ⌜ (r ≡ wholeSize (now (keys .entry)) n count) × (r ≤ mostBytes) ⌝ }
+    requires { ⌜ KeysRoom (now keys) × (n ≤ maxKeys) × (count ≤ maxCommits) ⌝ }
+    ensures { λ r. ⌜ (r ≡ wholeSize (now (keys .entry)) n count) × (r ≤ maxImage) ⌝ }
     ensures { λ r. ⌜ ((s : Store) → KeepsKeys s (now (keys .entry)) → s .keys ≡ n → s .commits ≡ count → r ≡ length (image s)) ⌝ }
 {
     let mut sum: usize = 8 + 8 * count;
     let mut k: usize = 0;
     while k < n {
-        sum = sum + (4 + 16 * version_count(keys[k]));
+        sum = sum + (4 + 16 * sets::size(keys[k]));
         k = k + 1;
     }
     sum
@@ -44,7 +31,7 @@ pub fn size(keys: &[u64], n: usize, count: usize) -> usize
 
 // The first 8 bytes: "u32 length, keys u8, commits u8, two zeros".
 fn write_head(buffer: &mut [u8], n: usize, count: usize, whole: usize)
-    requires { ⌜ (8 ≤ length (now buffer)) × (n ≤ maxKeys) × (count ≤ maxCommits) × (whole ≤ mostBytes) ⌝ }
+    requires { ⌜ (8 ≤ length (now buffer)) × (n ≤ maxKeys) × (count ≤ maxCommits) × (whole ≤ maxImage) ⌝ }
     ensures { λ _. ⌜ now (buffer .exit) ≡ putAt (now (buffer .entry)) 0 (headBytes whole n count) ⌝ }
 {
     endian::put_u32(buffer, 0, whole as u32);
@@ -54,7 +41,7 @@ fn write_head(buffer: &mut [u8], n: usize, count: usize, whole: usize)
 
 // The commits in order, behind the first 8 bytes.
 fn write_commits(buffer: &mut [u8], commits: &[u64], count: usize)
-    requires { ⌜ (length (now commits) ≡ 3 * numbers) × (count ≤ maxCommits) × (8 + 8 * count ≤ length (now buffer)) ⌝ }
+    requires { ⌜ CommitsRoom (now commits) × (count ≤ maxCommits) × (8 + 8 * count ≤ length (now buffer)) ⌝ }
     ensures { λ _. ⌜ ((s : Store) → KeepsCommits s (now (commits .entry)) → ClientsFit s → s .commits ≡ count
         → now (buffer .exit) ≡ putAt (now (buffer .entry)) 8 (pieces count (λ i. commitBytes s (suc i)))) ⌝ }
 {
@@ -66,19 +53,19 @@ fn write_commits(buffer: &mut [u8], commits: &[u64], count: usize)
 }
 
 // The n versions of key k, into the part of the image that starts at the key's offset: how many bytes they take.
-fn write_key(part: &mut [u8], versions: &[u64], k: usize, n: usize) -> usize
-    requires { ⌜ (length (now versions) ≡ 2 * (perKey * maxKeys)) × (k < maxKeys) × (n ≤ perKey) × (4 + 16 * n ≤ length (now part)) ⌝ }
+fn write_key(part: &mut [u8], versions: &[u64], k: Key, n: usize) -> usize
+    requires { ⌜ VersionsRoom (now versions) × (k .0 < maxKeys) × (n ≤ perKey) × (4 + 16 * n ≤ length (now part)) ⌝ }
     ensures { λ r. ⌜ r ≡ 4 + 16 * n ⌝ }
-    ensures { λ _. ⌜ ((s : Store) → KeepsVersions s (now (versions .entry)) → SoundStore s → s .commits ≤ maxCommits → count s k ≡ n
-        → now (part .exit) ≡ putAt (now (part .entry)) 0 (keyBytes s k)) ⌝ }
+    ensures { λ _. ⌜ ((s : Store) → KeepsVersions s (now (versions .entry)) → SoundStore s → s .commits ≤ maxCommits → count s (k .0) ≡ n
+        → now (part .exit) ≡ putAt (now (part .entry)) 0 (keyBytes s (k .0))) ⌝ }
 {
     endian::put_u32(part, 0, n as u32);
     let mut i: usize = 0;
     while i < n {
-        let from = ROW * k + i;
+        let from = state::PER_KEY * k.0 + i;
         let to = 4 + 16 * i;
         endian::put_u64(part, to, versions[from]);
-        endian::put_u64(part, to + 8, versions[READERS + from]);
+        endian::put_u64(part, to + 8, versions[state::READERS + from]);
         i = i + 1;
     }
     4 + 16 * n
@@ -86,7 +73,7 @@ fn write_key(part: &mut [u8], versions: &[u64], k: usize, n: usize) -> usize
 
 // The keys in order, from `start` on: "Each key's versions go into their own stretch of the lent image".
 fn write_keys(buffer: &mut [u8], versions: &[u64], keys: &[u64], n: usize, start: usize)
-    requires { ⌜ (length (now versions) ≡ 2 * (perKey * maxKeys)) × (length (now keys) ≡ 2 * maxKeys) × (n ≤ maxKeys) ⌝ }
+    requires { ⌜ VersionsRoom (now versions) × KeysRoom (now keys) × (n ≤ maxKeys) ⌝ }
     requires { ⌜ start + keysSize (now keys) n ≤ length (now buffer) ⌝ }
     ensures { λ _. ⌜ ((s : Store) → KeepsVersions s (now (versions .entry)) → KeepsKeys s (now (keys .entry))
         → SoundStore s → s .commits ≤ maxCommits → s .keys ≡ n
@@ -95,7 +82,7 @@ fn write_keys(buffer: &mut [u8], versions: &[u64], keys: &[u64], n: usize, start
     let mut at = start;
     let mut k: usize = 0;
     while k < n {
-        let took = write_key(&mut buffer[at..], versions, k, version_count(keys[k]));
+        let took = write_key(&mut buffer[at..], versions, Key(k), sets::size(keys[k]));
         at = at + took;
         k = k + 1;
     }
@@ -111,8 +98,8 @@ pub fn write(
     count: usize,
     whole: usize,
 )
-    requires { ⌜ (length (now versions) ≡ 2 * (perKey * maxKeys)) × (length (now keys) ≡ 2 * maxKeys) × (length (now commits) ≡ 3 * numbers) ⌝ }
-    requires { ⌜ (n ≤ maxKeys) × (count ≤ maxCommits) × (whole ≡ wholeSize (now keys) n count) × (whole ≤ mostBytes) × (whole ≤ length (now buffer)) ⌝ }
+    requires { ⌜ VersionsRoom (now versions) × KeysRoom (now keys) × CommitsRoom (now commits) ⌝ }
+    requires { ⌜ (n ≤ maxKeys) × (count ≤ maxCommits) × (whole ≡ wholeSize (now keys) n count) × (whole ≤ maxImage) × (whole ≤ length (now buffer)) ⌝ }
     ensures { λ _. ⌜ ((s : Store) → KeepsVersions s (now (versions .entry)) → KeepsKeys s (now (keys .entry)) → KeepsCommits s (now (commits .entry))
         → SoundStore s → ClientsFit s → s .keys ≡ n → s .commits ≡ count
         → now (buffer .exit) ≡ putAt (now (buffer .entry)) 0 (image s)) ⌝ }

@@ -1,4 +1,1 @@
 pub mod Answered
-pub mod InForm
-pub mod PutWords
-pub mod Words

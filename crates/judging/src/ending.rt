@@ -1,87 +1,51 @@
-// The end of the call, where a trace has been run and no record was refused: the image is written and the verdicts are answered, or the image buffer is
-// too short for the image.
+// The end of the call, where a trace is taken: the image is written and the verdicts are answered, or the image buffer is too short for the image.
 use crate::Answer;
-use crate::told;
 use state::Key;
+use state::Refusal;
 use state::VersionNumber;
+use verdicts::told::Verdicts;
 ghost use mathlib.Core.Path.{_≡_};
 ghost use mathlib.Core.List.{List};
-ghost use Prim.Native.Nat.{ℕ, _*_, _≤_};
+ghost use Prim.Native.Nat.{ℕ, _≤_};
 ghost use lib.ListN.{length};
-ghost use Rattle.endian.specs.Endian.{putAt};
 ghost use Rattle.store.specs.Limits.{maxKeys, maxCommits};
-ghost use Rattle.store.specs.Image.{image};
-ghost use Rattle.trace.specs.Result.{taken};
 ghost use Rattle.trace.specs.Format.{Trace};
-ghost use Rattle.answer.specs.Answer.{finalStore, report, imageAfter};
-ghost use Rattle.state.specs.Places.{perKey, numbers};
-ghost use Rattle.image.specs.Parts.{mostBytes, wholeSize};
-ghost use Rattle.judging.specs.Answers.{judgedOf, answerOf, toldAnswer};
-ghost use Rattle.judging.specs.Finished.{Finished};
+ghost use Rattle.answer.specs.Answer.{imageAfter};
+ghost use Rattle.state.specs.Room.{VersionsRoom, KeysRoom, CommitsRoom};
+ghost use Rattle.taking.specs.Taking.{Takes};
+ghost use Rattle.judging.specs.Answers.{answerOf, toldAnswer};
 
-// The image has room: it is written, and what was judged is answered.
-fn conclude(
-    buffer: &mut [u8],
-    versions: &[u64],
-    keys: &[u64],
-    commits: &[u64],
-    verdicts: &[u64],
-    n: usize,
-    count: usize,
-    records: usize,
-    whole: usize,
-) -> Answer
-    requires { ⌜ (length (now versions) ≡ 2 * (perKey * maxKeys)) × (length (now keys) ≡ 2 * maxKeys) × (length (now commits) ≡ 3 * numbers) × (length (now verdicts) ≡ 40) ⌝ }
-    requires { ⌜ (n ≤ maxKeys) × (count ≤ maxCommits) × (whole ≡ wholeSize (now keys) n count) × (whole ≤ mostBytes) × (whole ≤ length (now buffer)) ⌝ }
-    ensures { λ r. ⌜ ((bytes : List ℕ) (t : Trace)
-        → Finished bytes t (now (versions .entry)) (now (keys .entry)) (now (commits .entry)) (now (verdicts .entry)) n count records
-        → whole ≡ length (image (finalStore t))
-        → (answerOf r ≡ taken (judgedOf (report t))) × (now (buffer .exit) ≡ putAt (now (buffer .entry)) 0 (image (finalStore t)))) ⌝ }
-{
-    image::write(buffer, versions, keys, commits, n, count, whole);
-    Answer::Judged {
-        verdicts: told::verdicts_from(verdicts),
-        records,
-        commits: count,
-        image_length: whole,
-    }
-}
-
-// The answer for a trace of so many records that leaves n keys and `count` commits; code 15: "image buffer shorter than the image".
+// The answer for a taken trace of so many keys, records and commits, with its verdicts; code 15: "image buffer shorter than the image".
 pub fn finish(
     buffer: &mut [u8],
     versions: &[u64],
     keys: &[u64],
     commits: &[u64],
-    verdicts: &[u64],
     n: usize,
-    count: usize,
     records: usize,
+    count: usize,
+    verdicts: Verdicts,
 ) -> Answer
-    requires { ⌜ (length (now versions) ≡ 2 * (perKey * maxKeys)) × (length (now keys) ≡ 2 * maxKeys) × (length (now commits) ≡ 3 * numbers) × (length (now verdicts) ≡ 40) ⌝ }
-    requires { ⌜ (n ≤ maxKeys) × (count ≤ maxCommits) ⌝ }
-    ensures { λ r. ⌜ ((bytes : List ℕ) (t : Trace)
-        → Finished bytes t (now (versions .entry)) (now (keys .entry)) (now (commits .entry)) (now (verdicts .entry)) n count records
-        → (answerOf r ≡ toldAnswer bytes (length (now (buffer .entry)))) × (now (buffer .exit) ≡ imageAfter bytes (now (buffer .entry)))) ⌝ }
+    requires { ⌜ VersionsRoom (now versions) × KeysRoom (now keys) × CommitsRoom (now commits) × (n ≤ maxKeys) × (count ≤ maxCommits) ⌝ }
+    ensures { λ r. ⌜
+        ((bytes : List ℕ) (t : Trace) → Takes bytes t (now (versions .entry)) (now (keys .entry)) (now (commits .entry)) n records count verdicts
+        → (answerOf r ≡ toldAnswer bytes (length (now (buffer .entry)))) × (now (buffer .exit) ≡ imageAfter bytes (now (buffer .entry))))
+        ⌝ }
 {
     let whole = image::size(keys, n, count);
     if buffer.len() < whole {
-        return Answer::Refused {
+        return Answer::Refused(Refusal {
             code: 15,
             record: 0,
             key: Key(0),
             version: VersionNumber(0),
-        };
+        });
     }
-    conclude(
-        buffer,
-        versions,
-        keys,
-        commits,
+    image::write(buffer, versions, keys, commits, n, count, whole);
+    Answer::Judged {
         verdicts,
-        n,
-        count,
         records,
-        whole,
-    )
+        commits: count,
+        image_length: whole,
+    }
 }

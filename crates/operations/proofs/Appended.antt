@@ -23,15 +23,16 @@ use Rattle.store.specs.Update.{valueOf, writes, newest, append, update}
 use Rattle.store.proofs.Updated.{note-length, append-none}
 use Rattle.growth.specs.Links.{FromWrite}
 use Rattle.state.specs.Places.{perKey, headPlace, readersPlace, fullPlace, writersPlace, packed}
+use Rattle.state.specs.Room.{VersionsRoom, KeysRoom}
 use Rattle.state.specs.Keeps.{IsSet, KeepsVersions, KeepsKeys}
 use Rattle.state.specs.Accesses.{Left}
 use Rattle.state.proofs.Sets.{isSet-as, isSet-insert}
+use Rattle.state.proofs.Ranks.{writes-rank}
 use Rattle.state.proofs.Accesses.{next-key, left-none}
 use Rattle.state.proofs.Below.{From, from-turn, from-passed}
 use Rattle.operations.specs.Given.{Given, Appending}
 use Rattle.operations.specs.PerKey.{writtenAt}
 use Rattle.operations.specs.Change.{freeBit, free, versionAdded, keyGrown, readsNoted, writesAppended}
-use Rattle.operations.proofs.Reading.{writes-rank}
 use Rattle.operations.proofs.Noted.{noted-wrote, keys-noted}
 use Rattle.operations.proofs.Rows.{VersionAt, Row, WroteIn, KeyRow, rows-of, of-rows, row-other, key-other, Passed, pass-none, pass-key, pass-skip}
 
@@ -226,7 +227,7 @@ module _ {s : Store} {c : Commit} {versions keys values : List ℕ} {ranks n : �
       isSet-as found (λ a. (λ (q, _, (r, x)). (q, r, x), λ (q, r, x). (q, omega (arith, g .write-keys q r, g .keys-are), (r, x))))
       (from-passed (writtenAt s c) found y l (λ j a b. unwritten j (left-none h e j a b)))
 
-  pub writes-appended : {k : ℕ} {left : Set} → Left ranks 1 n k left → (vs ks : List ℕ) → k ≤ n → left ≡ 0 → length vs ≡ 2 * (perKey * maxKeys) → length ks ≡ 2 * maxKeys
+  pub writes-appended : {k : ℕ} {left : Set} → Left ranks 1 n k left → (vs ks : List ℕ) → k ≤ n → left ≡ 0 → VersionsRoom vs → KeysRoom ks
       → WritesPassed s c t n k vs ks → KeepsVersions (writesAppended s c t) vs × KeepsKeys (writesAppended s c t) ks
   writes-appended {k} h vs ks l e room room′ p =
       let w : WritesPassed s c t n n vs ks = skipped k n vs ks l (omega arith) (λ j x y. left-none h e j x y) p in (

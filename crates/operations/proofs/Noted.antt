@@ -17,6 +17,7 @@ use Rattle.store.specs.Update.{valueOf, newest, readBy, noteRead}
 use Rattle.store.specs.History.{Wrote}
 use Rattle.store.proofs.Updated.{note-length, note-writer}
 use Rattle.state.specs.Places.{perKey, headPlace, readersPlace, writerIn}
+use Rattle.state.specs.Room.{VersionsRoom}
 use Rattle.state.specs.Keeps.{KeepsVersions, KeepsKeys}
 use Rattle.state.specs.Accesses.{Left}
 use Rattle.state.proofs.Sets.{isSet-as}
@@ -112,7 +113,7 @@ module _ {s : Store} {u : View} {c : Commit} {versions views : List ℕ} {base :
         let v = p .left q b l .each (newest u q) x in
         rw (g .row q l) (writer-packed g q x (v .head))
 
-    pub reads-noted : (a : List ℕ) → k ≤ n → left ≡ 0 → length a ≡ 2 * (perKey * maxKeys) → ReadsPassed s u c t n k a → KeepsVersions (readsNoted s u c t) a
+    pub reads-noted : (a : List ℕ) → k ≤ n → left ≡ 0 → VersionsRoom a → ReadsPassed s u c t n k a → KeepsVersions (readsNoted s u c t) a
     reads-noted a l e room p =
         of-rows (readsNoted s u c t) a n room
         (λ q i m. omega (arith, g .sound .only-keys q i (rw (note-length (valueOf read (c .operations) q) (newest u q) t (s .versions q)) at m), g .keys-are))

@@ -20,11 +20,12 @@ use Rattle.state.specs.Places.{writersPlace}
 use Rattle.state.specs.Keeps.{IsSet, KeepsKeys, WroteKey}
 use Rattle.state.specs.Accesses.{Left}
 use Rattle.state.proofs.Sets.{isSet-as, isSet-single, isSet-without}
+use Rattle.state.proofs.Ranks.{reads-rank}
 use Rattle.state.proofs.Accesses.{next-key, left-none}
 use Rattle.state.proofs.Below.{From, from-turn, from-passed}
 use Rattle.operations.specs.Given.{Given}
 use Rattle.operations.specs.PerKey.{readAt, laterAt}
-use Rattle.operations.proofs.Reading.{reads-rank, seen-exists}
+use Rattle.operations.proofs.Reading.{seen-exists}
 
 module _ {s : Store} {u : View} {c : Commit} {versions views : List ℕ} {base : ℕ} {values : List ℕ} {ranks n : ℕ}
     (g : Given s u c versions views base values ranks n) where

@@ -1,6 +1,6 @@
 -- The version that a read sees: what the arrays say of it, and when the read is wrong. Assumes nothing.
 use Prim.Native.Nat.{ℕ, _+_, _-_, _*_, _/_, _%_, _^_, _≤_, _<_}
-use mathlib.Core.Path.{_≡_, refl, sym, ap, _∙_, subst}
+use mathlib.Core.Path.{_≡_, refl, sym, ap, subst}
 use mathlib.Core.Bool.{Bool, true, false, _&&_, not}
 use mathlib.Core.Option.{some, none}
 use mathlib.Core.List.{List}
@@ -9,16 +9,16 @@ use native.Mathlib.Decide.{ℕ-discrete, decLt}
 use lib.Dec.{T, eqb}
 use lib.Pow.{pow-pos}
 use lib.ListN.{getD}
-use Rattle.search.specs.Choose.{isSome, mapSome, when}
-use Rattle.search.proofs.Tests.{true-T, T-true, T-false, and-is, same}
+use Rattle.search.specs.Choose.{mapSome, when}
+use Rattle.search.proofs.Tests.{true-T, T-true, and-is, same}
 use Rattle.search.proofs.Search.{least-found, least-none}
-use Rattle.sets.specs.Set.{Set, has, highest}
+use Rattle.sets.specs.Set.{has, highest}
 use Rattle.sets.proofs.Laws.{has-large, has-highest}
-use Rattle.store.specs.Store.{Key, Value, Version, View, Store, count, version, nextNumber, read, Commit}
-use Rattle.store.specs.Update.{reads, writes, newest}
+use Rattle.store.specs.Limits.{maxCommits, numbers}
+use Rattle.store.specs.Store.{Key, Value, Version, View, Store, count, version, nextNumber, Commit}
+use Rattle.store.specs.Update.{reads, newest}
 use Rattle.store.specs.Refusal.{differs, wrongAt, wrongRead}
 use Rattle.state.specs.Places.{headPlace, packed, writerIn}
-use Rattle.state.specs.Keeps.{KeepsOperations}
 use Rattle.operations.specs.Given.{Given}
 
 -- ---- two numbers in one word
@@ -30,27 +30,15 @@ pub high-half : (low high : ℕ) → low < 2 ^ 32 → packed low high / 2 ^ 32 �
 high-half low high l = omega arith
 
 -- me << 32
-pub high-shifted : (high : ℕ) → high < 64 → high * 2 ^ 32 % 2 ^ 64 ≡ high * 2 ^ 32
+pub high-shifted : (high : ℕ) → high < numbers → high * 2 ^ 32 % 2 ^ 64 ≡ high * 2 ^ 32
 high-shifted high l = omega arith
 
--- ---- operations by their ranks
-
-some-when : {A : Type 0} (b : Bool) (a : A) → isSome (when b a) ≡ b
-unfolding isSome when
-some-when true a = refl
-some-when false a = refl
+-- ---- a value that may have been read
 
 differs-when : (b : Bool) (x : Value) (v : Version) → differs (when b x) v ≡ (b && not (eqb x (v .value)))
 unfolding differs when
 differs-when true x v = refl
 differs-when false x v = refl
-
-module _ {c : Commit} {ranks : Set} {values : List ℕ} (o : KeepsOperations c ranks values) (k : Key) where
-  pub reads-rank : reads c k ≡ has ranks (2 * k)
-  reads-rank = ap isSome (o .reads k) ∙ some-when (has ranks (2 * k)) _
-
-  pub writes-rank : writes c k ≡ has ranks (2 * k + 1)
-  writes-rank = ap isSome (o .writes k) ∙ some-when (has ranks (2 * k + 1)) _
 
 -- ---- the version that is seen
 
@@ -62,7 +50,7 @@ module _ {s : Store} {u : View} {c : Commit} {versions views : List ℕ} {base :
   writer-packed k {i} {h} l e =
       let w : h / 2 ^ 32 ≡ version s k i .writer = rw e (high-half _ _ (g .in-versions .value-fits k i l)) in
       let b : version s k i .writer < nextNumber s = g .sound .writers _ k i (l, refl) in
-      let m : nextNumber s ≤ 63 = g .room-left in
+      let m : nextNumber s ≤ maxCommits = g .room-left in
       omega arith
 
   module _ (k : Key) (l : k < n) where

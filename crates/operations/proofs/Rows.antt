@@ -1,5 +1,5 @@
 -- What the arrays say of the versions of one key, and a loop over the keys that changes what they say of one key at a time. Assumes nothing.
-use Prim.Native.Nat.{ℕ, _+_, _*_, _^_, _≤_, _<_}
+use Prim.Native.Nat.{ℕ, _+_, _^_, _≤_, _<_}
 use mathlib.Core.Path.{_≡_, sym, _∙_, subst}
 use mathlib.Core.Logic.{_≢_}
 use mathlib.Core.List.{List}
@@ -8,9 +8,9 @@ use native.Mathlib.Decide.{ℕ-discrete, decLt}
 use lib.ListN.{length, getD, set, length-set}
 use lib.Seq.{getD-set-other}
 use Rattle.sets.specs.Set.{below}
-use Rattle.store.specs.Limits.{maxKeys}
 use Rattle.store.specs.Store.{Key, VersionNumber, CommitNumber, Version, openingVersion, Store, count}
 use Rattle.state.specs.Places.{perKey, headPlace, readersPlace, fullPlace, writersPlace, packed}
+use Rattle.state.specs.Room.{VersionsRoom, KeysRoom}
 use Rattle.state.specs.Keeps.{IsSet, KeepsVersions}
 
 -- ---- one key
@@ -23,7 +23,7 @@ pub record VersionAt (versions : List ℕ) (k : Key) (i : VersionNumber) (v : Ve
 
 -- the versions of a key
 pub record Row (versions : List ℕ) (k : Key) (vs : List Version) : Type 0 where
-  pub room : length versions ≡ 2 * (perKey * maxKeys)
+  pub room : VersionsRoom versions
   pub few : length vs ≤ perKey
   pub each : (i : ℕ) → i < length vs → VersionAt versions k i (getD vs i openingVersion)
 
@@ -33,7 +33,7 @@ WroteIn vs t i = (i < length vs) × (getD vs i openingVersion .writer ≡ t)
 
 -- the full mask and the writers of a key
 pub record KeyRow (keys : List ℕ) (k : Key) (vs : List Version) : Type 0 where
-  pub room : length keys ≡ 2 * maxKeys
+  pub room : KeysRoom keys
   pub full : getD keys (fullPlace k) 0 ≡ below (length vs)
   pub writers : IsSet (getD keys (writersPlace k) 0) (λ t. (i : ℕ) × WroteIn vs t i)
 
@@ -45,7 +45,7 @@ rows-of h few k = record {
   each = λ i l. record { head = h .heads k i l; readers = h .readers k i l; fits = h .value-fits k i l };
 }
 
-pub of-rows : (s : Store) (versions : List ℕ) (n : ℕ) → length versions ≡ 2 * (perKey * maxKeys) → ((k i : ℕ) → i < count s k → k < n)
+pub of-rows : (s : Store) (versions : List ℕ) (n : ℕ) → VersionsRoom versions → ((k i : ℕ) → i < count s k → k < n)
     → ((k : Key) → k < n → Row versions k (s .versions k)) → KeepsVersions s versions
 of-rows s versions n room only h = record {
   room = room;

@@ -1,19 +1,25 @@
 // What the operations of a commit say of the arrays, and do to them. A commit reads the newest version that its client's view holds of a key,
 // and appends the versions that it writes; both are from before the commit, so a read never sees a write of its own commit.
 // The arrays are described in crates/state/specs. `ranks` holds twice the key for each read, and one more for each write.
+use state::CommitNumber;
+use state::Found;
+use state::Key;
+use state::VersionNumber;
 ghost use mathlib.Core.Path.{_≡_};
 ghost use mathlib.Core.List.{List};
-ghost use Prim.Native.Nat.{ℕ, _+_, _*_, _/_, _%_, _^_, _<_, _≤_};
+ghost use Prim.Native.Nat.{ℕ, _+_, _*_, _%_, _^_, _<_, _≤_};
 ghost use lib.Bits.{bitOr};
 ghost use lib.Dec.{T};
-ghost use lib.ListN.{length, getD};
+ghost use lib.ListN.{getD};
 ghost use Rattle.sets.specs.Set.{has, highest};
+ghost use Rattle.store.specs.Limits.{maxKeys, numbers, perKey};
 ghost use Rattle.store.specs.Store.{View, Store, nextNumber, Commit};
 ghost use Rattle.store.specs.Refusal.{wrongAt, wrongRead};
 ghost use Rattle.store.specs.Update.{update};
-ghost use Rattle.state.specs.Places.{headPlace, readersPlace, writerIn};
+ghost use Rattle.state.specs.Places.{headPlace, readersPlace, viewsLength, writerIn};
 ghost use Rattle.growth.specs.Links.{FromRead, FromWrite, ToLater};
 ghost use Rattle.growth.specs.Ordered.{Ordered};
+ghost use Rattle.state.specs.Room.{VersionsRoom, KeysRoom, ViewsRoom, ValuesRoom};
 ghost use Rattle.state.specs.Answers.{placeOf};
 ghost use Rattle.state.specs.Keeps.{IsSet, KeepsVersions, KeepsKeys};
 ghost use Rattle.operations.specs.Given.{Given, Appending};
@@ -32,29 +38,31 @@ fn value_of(head: u64) -> u64
 }
 
 // The number of the version that a read of key k sees.
-fn seen(views: &[u64], base: usize, k: usize) -> usize
-    requires { ⌜ (length (now views) ≡ 256) × (base + k < 256) ⌝ }
-    ensures { λ r. ⌜ (r ≡ highest (getD (now (views .entry)) (base + k) 0)) × (r < 64) ⌝ }
+fn seen(views: &[u64], base: usize, k: Key) -> VersionNumber
+    requires { ⌜ ViewsRoom (now views) × (base + k .0 < viewsLength) ⌝ }
+    ensures { λ r. ⌜ (r .0 ≡ highest (getD (now (views .entry)) (base + k .0) 0)) × (r .0 < perKey) ⌝ }
 {
-    state::newest(views[base + k])
+    let i = k.0;
+    state::newest(views[base + i])
 }
 
 // The head of the version that a read of key k sees.
-fn head_seen(versions: &[u64], views: &[u64], base: usize, k: usize) -> u64
-    requires { ⌜ (length (now versions) ≡ 2048) × (length (now views) ≡ 256) × (base + k < 256) × (k < 16) ⌝ }
-    ensures { λ r. ⌜ r ≡ getD (now (versions .entry)) (headPlace k (highest (getD (now (views .entry)) (base + k) 0))) 0 ⌝ }
+fn head_seen(versions: &[u64], views: &[u64], base: usize, k: Key) -> u64
+    requires { ⌜ VersionsRoom (now versions) × ViewsRoom (now views) × (base + k .0 < viewsLength) × (k .0 < maxKeys) ⌝ }
+    ensures { λ r. ⌜ r ≡ getD (now (versions .entry)) (headPlace (k .0) (highest (getD (now (views .entry)) (base + k .0) 0))) 0 ⌝ }
 {
-    let at = 64 * k + seen(views, base, k);
+    let at = state::PER_KEY * k.0 + seen(views, base, k).0;
     versions[at]
 }
 
 // Whether key k, which is read, is read with another value than that of the newest version in the view.
-fn wrong_at(versions: &[u64], views: &[u64], base: usize, values: &[u64], k: usize) -> bool
-    requires { ⌜ (length (now versions) ≡ 2048) × (length (now views) ≡ 256) × (base + k < 256) × (k < 16) × (length (now values) ≡ 32) ⌝ }
+fn wrong_at(versions: &[u64], views: &[u64], base: usize, values: &[u64], k: Key) -> bool
+    requires { ⌜ VersionsRoom (now versions) × ViewsRoom (now views) × (base + k .0 < viewsLength) × (k .0 < maxKeys) × ValuesRoom (now values) ⌝ }
     ensures { λ r. ⌜ ((s : Store) (u : View) (c : Commit) (ranks n : ℕ)
-        → Given s u c (now (versions .entry)) (now (views .entry)) base (now (values .entry)) ranks n → k < n → T (has ranks (2 * k)) → r ≡ wrongAt s u c k) ⌝ }
+        → Given s u c (now (versions .entry)) (now (views .entry)) base (now (values .entry)) ranks n → k .0 < n → T (has ranks (2 * k .0)) → r ≡ wrongAt s u c (k .0)) ⌝ }
 {
-    values[2 * k] != value_of(head_seen(versions, views, base, k))
+    let i = k.0;
+    values[2 * i] != value_of(head_seen(versions, views, base, k))
 }
 
 // Code 13: the least key that is read with another value than that of the newest version in the view, and that version.
@@ -65,37 +73,37 @@ pub fn wrong_read(
     values: &[u64],
     ranks: u64,
     n: usize,
-) -> state::Found
-    requires { ⌜ (length (now versions) ≡ 2048) × (length (now views) ≡ 256) × (base + n ≤ 256) × (n ≤ 16) × (length (now values) ≡ 32) ⌝ }
+) -> Found
+    requires { ⌜ VersionsRoom (now versions) × ViewsRoom (now views) × (base + n ≤ viewsLength) × (n ≤ maxKeys) × ValuesRoom (now values) ⌝ }
     ensures { λ r. ⌜ ((s : Store) (u : View) (c : Commit)
         → Given s u c (now (versions .entry)) (now (views .entry)) base (now (values .entry)) ranks n → placeOf r ≡ wrongRead s u c) ⌝ }
 {
     let mut left = state::keys_with(ranks, READ, n);
     while left != 0 {
-        let k = sets::lowest(left) / 2;
+        let k = Key(sets::lowest(left) / 2);
         if wrong_at(versions, views, base, values, k) {
-            return state::Found::At(state::Key(k), state::VersionNumber(seen(views, base, k)));
+            return Found::At(k, seen(views, base, k));
         }
         left = sets::rest(left);
     }
-    state::Found::Nothing
+    Found::Nothing
 }
 
 // The writer of the version that a read of key k sees.
-fn writer_seen(versions: &[u64], views: &[u64], base: usize, k: usize) -> usize
-    requires { ⌜ (length (now versions) ≡ 2048) × (length (now views) ≡ 256) × (base + k < 256) × (k < 16) ⌝ }
-    ensures { λ r. ⌜ (r ≡ writerIn (getD (now (versions .entry)) (headPlace k (highest (getD (now (views .entry)) (base + k) 0))) 0)) × (r < 64) ⌝ }
+fn writer_seen(versions: &[u64], views: &[u64], base: usize, k: Key) -> CommitNumber
+    requires { ⌜ VersionsRoom (now versions) × ViewsRoom (now views) × (base + k .0 < viewsLength) × (k .0 < maxKeys) ⌝ }
+    ensures { λ r. ⌜ (r .0 ≡ writerIn (getD (now (versions .entry)) (headPlace (k .0) (highest (getD (now (views .entry)) (base + k .0) 0))) 0)) × (r .0 < numbers) ⌝ }
 {
     state::writer_of(head_seen(versions, views, base, k))
 }
 
 // The reader `me` added to the version that a read of key k sees.
-fn note_read(versions: &mut [u64], views: &[u64], base: usize, k: usize, me: usize)
-    requires { ⌜ (length (now versions) ≡ 2048) × (length (now views) ≡ 256) × (base + k < 256) × (k < 16) × (me < 64) ⌝ }
-    ensures { λ _. ⌜ now (versions .exit) ≡ readerAdded (now (versions .entry)) (readersPlace k (highest (getD (now (views .entry)) (base + k) 0))) me ⌝ }
+fn note_read(versions: &mut [u64], views: &[u64], base: usize, k: Key, me: CommitNumber)
+    requires { ⌜ VersionsRoom (now versions) × ViewsRoom (now views) × (base + k .0 < viewsLength) × (k .0 < maxKeys) × (me .0 < numbers) ⌝ }
+    ensures { λ _. ⌜ now (versions .exit) ≡ readerAdded (now (versions .entry)) (readersPlace (k .0) (highest (getD (now (views .entry)) (base + k .0) 0))) (me .0) ⌝ }
 {
-    let at = 1024 + (64 * k + seen(views, base, k));
-    versions[at] = sets::insert(versions[at], me);
+    let at = state::READERS + (state::PER_KEY * k.0 + seen(views, base, k).0);
+    versions[at] = sets::insert(versions[at], me.0);
 }
 
 // The writers of the versions that a commit reads, and those of later versions of the same keys.
@@ -113,11 +121,11 @@ pub fn note_reads(
     base: usize,
     ranks: u64,
     n: usize,
-    me: usize,
+    me: CommitNumber,
 ) -> Reads
-    requires { ⌜ (length (now versions) ≡ 2048) × (length (now keys) ≡ 32) × (length (now views) ≡ 256) × (base + n ≤ 256) × (n ≤ 16) × (me < 64) ⌝ }
+    requires { ⌜ VersionsRoom (now versions) × KeysRoom (now keys) × ViewsRoom (now views) × (base + n ≤ viewsLength) × (n ≤ maxKeys) × (me .0 < numbers) ⌝ }
     ensures noted { λ _. ⌜ ((s : Store) (u : View) (c : Commit) (values : List ℕ)
-        → Given s u c (now (versions .entry)) (now (views .entry)) base values ranks n → KeepsVersions (readsNoted s u c me) (now (versions .exit))) ⌝ }
+        → Given s u c (now (versions .entry)) (now (views .entry)) base values ranks n → KeepsVersions (readsNoted s u c (me .0)) (now (versions .exit))) ⌝ }
     ensures links { λ r. ⌜ ((s : Store) (u : View) (c : Commit) (values : List ℕ)
         → Given s u c (now (versions .entry)) (now (views .entry)) base values ranks n → KeepsKeys s (now (keys .entry)) → Ordered s
         → IsSet (r .from) (FromRead s u c) × IsSet (r .over) (ToLater s u c)) ⌝ }
@@ -127,52 +135,57 @@ pub fn note_reads(
     let mut left = state::keys_with(ranks, READ, n);
     while left != 0 {
         let k = sets::lowest(left) / 2;
-        let writer = writer_seen(versions, views, base, k);
+        let writer = writer_seen(versions, views, base, Key(k)).0;
         from = sets::union(from, sets::single(writer));
-        over = sets::union(over, sets::without(keys[16 + k], sets::up_to(writer)));
-        note_read(versions, views, base, k, me);
+        over = sets::union(
+            over,
+            sets::without(keys[state::WRITERS + k], sets::up_to(writer)),
+        );
+        note_read(versions, views, base, Key(k), me);
         left = sets::rest(left);
     }
     Reads { from, over }
 }
 
 // The head of a version: its value, and its writer above it.
-fn head_of(value: u64, me: usize) -> u64
-    requires { ⌜ me < 64 ⌝ }
-    ensures { λ r. ⌜ r ≡ bitOr value (me * 2 ^ 32) ⌝ }
+fn head_of(value: u64, me: CommitNumber) -> u64
+    requires { ⌜ me .0 < numbers ⌝ }
+    ensures { λ r. ⌜ r ≡ bitOr value (me .0 * 2 ^ 32) ⌝ }
 {
-    value | ((me as u64) << 32)
+    value | ((me.0 as u64) << 32)
 }
 
 // A version put at its place, with no readers.
 fn put_version(versions: &mut [u64], at: usize, head: u64)
-    requires { ⌜ (length (now versions) ≡ 2048) × (at < 1024) ⌝ }
+    requires { ⌜ VersionsRoom (now versions) × (at < perKey * maxKeys) ⌝ }
     ensures { λ _. ⌜ now (versions .exit) ≡ versionAdded (now (versions .entry)) at head ⌝ }
 {
     versions[at] = head;
-    versions[1024 + at] = 0;
+    versions[state::READERS + at] = 0;
 }
 
 // The new version's bit added to the full mask of key k, and `me` to its writers.
-fn grow_key(keys: &mut [u64], k: usize, bit: u64, me: usize)
-    requires { ⌜ (length (now keys) ≡ 32) × (k < 16) × (me < 64) ⌝ }
-    ensures { λ _. ⌜ now (keys .exit) ≡ keyGrown (now (keys .entry)) k bit me ⌝ }
+fn grow_key(keys: &mut [u64], k: Key, bit: u64, me: CommitNumber)
+    requires { ⌜ KeysRoom (now keys) × (k .0 < maxKeys) × (me .0 < numbers) ⌝ }
+    ensures { λ _. ⌜ now (keys .exit) ≡ keyGrown (now (keys .entry)) (k .0) bit (me .0) ⌝ }
 {
-    let full = sets::union(keys[k], bit);
-    let writers = sets::insert(keys[16 + k], me);
-    keys[k] = full;
-    keys[16 + k] = writers;
+    let i = k.0;
+    let full = sets::union(keys[i], bit);
+    let writers = sets::insert(keys[state::WRITERS + i], me.0);
+    keys[i] = full;
+    keys[state::WRITERS + i] = writers;
 }
 
 // A version by `me` appended to key k. The bit of the new version is one more than the mask of all before it; the sum wraps only where
-// there are 64 of them, which is so in no store with room for a commit.
-fn append_at(versions: &mut [u64], keys: &mut [u64], value: u64, k: usize, me: usize)
-    requires { ⌜ (length (now versions) ≡ 2048) × (length (now keys) ≡ 32) × (k < 16) × (me < 64) ⌝ }
-    ensures { λ _. ⌜ (now (versions .exit) ≡ versionAdded (now (versions .entry)) (headPlace k (free (now (keys .entry)) k)) (bitOr value (me * 2 ^ 32)))
-        × (now (keys .exit) ≡ keyGrown (now (keys .entry)) k (freeBit (now (keys .entry)) k) me) ⌝ }
+// there are as many as a key can have, which is so in no store with room for a commit.
+fn append_at(versions: &mut [u64], keys: &mut [u64], value: u64, k: Key, me: CommitNumber)
+    requires { ⌜ VersionsRoom (now versions) × KeysRoom (now keys) × (k .0 < maxKeys) × (me .0 < numbers) ⌝ }
+    ensures { λ _. ⌜ (now (versions .exit) ≡ versionAdded (now (versions .entry)) (headPlace (k .0) (free (now (keys .entry)) (k .0))) (bitOr value (me .0 * 2 ^ 32)))
+        × (now (keys .exit) ≡ keyGrown (now (keys .entry)) (k .0) (freeBit (now (keys .entry)) (k .0)) (me .0)) ⌝ }
 {
-    let bit = std::num::wrapping_add_u64(keys[k], 1);
-    let at = 64 * k + state::newest(bit);
+    let i = k.0;
+    let bit = std::num::wrapping_add_u64(keys[i], 1);
+    let at = state::PER_KEY * i + state::newest(bit).0;
     put_version(versions, at, head_of(value, me));
     grow_key(keys, k, bit, me);
 }
@@ -184,18 +197,18 @@ pub fn append(
     values: &[u64],
     ranks: u64,
     n: usize,
-    me: usize,
+    me: CommitNumber,
 ) -> u64
-    requires { ⌜ (length (now versions) ≡ 2048) × (length (now keys) ≡ 32) × (length (now values) ≡ 32) × (n ≤ 16) × (me < 64) ⌝ }
+    requires { ⌜ VersionsRoom (now versions) × KeysRoom (now keys) × ValuesRoom (now values) × (n ≤ maxKeys) × (me .0 < numbers) ⌝ }
     ensures { λ r. ⌜ ((s : Store) (c : Commit) → Appending s c (now (versions .entry)) (now (keys .entry)) (now (values .entry)) ranks n
-        → KeepsVersions (writesAppended s c me) (now (versions .exit)) × KeepsKeys (writesAppended s c me) (now (keys .exit)) × IsSet r (FromWrite s c)) ⌝ }
+        → KeepsVersions (writesAppended s c (me .0)) (now (versions .exit)) × KeepsKeys (writesAppended s c (me .0)) (now (keys .exit)) × IsSet r (FromWrite s c)) ⌝ }
 {
     let mut earlier: u64 = 0;
     let mut left = state::keys_with(ranks, WRITE, n);
     while left != 0 {
         let k = sets::lowest(left) / 2;
-        earlier = sets::union(earlier, keys[16 + k]);
-        append_at(versions, keys, values[2 * k + 1], k, me);
+        earlier = sets::union(earlier, keys[state::WRITERS + k]);
+        append_at(versions, keys, values[2 * k + 1], Key(k), me);
         left = sets::rest(left);
     }
     earlier
@@ -217,12 +230,12 @@ pub fn perform(
     values: &[u64],
     ranks: u64,
     n: usize,
-    me: usize,
+    me: CommitNumber,
 ) -> Linked
-    requires { ⌜ (length (now versions) ≡ 2048) × (length (now keys) ≡ 32) × (length (now views) ≡ 256) × (length (now values) ≡ 32)
-        × (base + n ≤ 256) × (n ≤ 16) × (me < 64) ⌝ }
+    requires { ⌜ VersionsRoom (now versions) × KeysRoom (now keys) × ViewsRoom (now views) × ValuesRoom (now values)
+        × (base + n ≤ viewsLength) × (n ≤ maxKeys) × (me .0 < numbers) ⌝ }
     ensures made { λ _. ⌜ ((s : Store) (u : View) (c : Commit)
-        → Given s u c (now (versions .entry)) (now (views .entry)) base (now (values .entry)) ranks n → KeepsKeys s (now (keys .entry)) → me ≡ nextNumber s
+        → Given s u c (now (versions .entry)) (now (views .entry)) base (now (values .entry)) ranks n → KeepsKeys s (now (keys .entry)) → me .0 ≡ nextNumber s
         → KeepsVersions (update s u c) (now (versions .exit)) × KeepsKeys (update s u c) (now (keys .exit))) ⌝ }
     ensures links { λ r. ⌜ ((s : Store) (u : View) (c : Commit)
         → Given s u c (now (versions .entry)) (now (views .entry)) base (now (values .entry)) ranks n → KeepsKeys s (now (keys .entry)) → Ordered s

@@ -12,7 +12,8 @@ use lib.Seq.{getD-set-same, getD-set-other}
 use Rattle.search.proofs.Tests.{same, both}
 use Rattle.sets.specs.Set.{Set, has, single, union, without, lowest}
 use Rattle.sets.proofs.Laws.{has-none, has-lt, has-lowest}
-use Rattle.state.specs.Places.{linkPlace, leadPlace}
+use Rattle.store.specs.Limits.{maxKeys, numbers}
+use Rattle.state.specs.Places.{linkPlace, leadPlace, linksLength}
 use Rattle.state.specs.Keeps.{IsSet}
 use Rattle.state.proofs.Sets.{isSet-single, isSet-without}
 use Rattle.state.proofs.Below.{below-passed, below-turn, from-none, RowWith, keys-turn, keys-passed}
@@ -98,7 +99,7 @@ module _ (ranks first into : Set) where
 
   module _ {k q : ℕ} (l : k ≤ q) (none : (j : ℕ) → k ≤ j → j < q → ¬ T (has ranks (2 * j))) {before after : List ℕ} (h : Joined (LeadsOf ranks k first into) before after) where
     -- a key that is not passed has its own places
-    leads-apart : q < 16 → (kind : ℕ) (g : Set) → ¬ LeadsOf ranks k first into (leadPlace kind q) g
+    leads-apart : q < maxKeys → (kind : ℕ) (g : Set) → ¬ LeadsOf ranks k first into (leadPlace kind q) g
     leads-apart m kind g (j, o, (_, (other, _, e, _))) = absurd (omega arith)
 
     leads-taken : T (has ranks (2 * q)) → (j : ℕ) (g : Set) → LeadsOf ranks (q + 1) first into j g ↔ (LeadsOf ranks k first into j g ⊎ GainsAt leadPlace first into q j g)
@@ -112,9 +113,9 @@ module _ (ranks first into : Set) where
         back (inl x) = inl x
         back (inr x) = inr (r, x)
 
-    pub leads-turn : T (has ranks (2 * q)) → q < 16 → 160 ≤ length after
-        → {w₀ w₁ : Set} → w₀ ≡ union (getD after (128 + q) 0) first → w₁ ≡ union (getD (set after (128 + q) w₀) (144 + q) 0) into
-        → Joined (LeadsOf ranks (q + 1) first into) before (set (set after (128 + q) w₀) (144 + q) w₁)
+    pub leads-turn : T (has ranks (2 * q)) → q < maxKeys → linksLength ≤ length after
+        → {w₀ w₁ : Set} → w₀ ≡ union (getD after (2 * numbers + q) 0) first → w₁ ≡ union (getD (set after (2 * numbers + q) w₀) (2 * numbers + maxKeys + q) 0) into
+        → Joined (LeadsOf ranks (q + 1) first into) before (set (set after (2 * numbers + q) w₀) (2 * numbers + maxKeys + q) w₁)
     leads-turn r m room = joined-both h leadPlace first into q (omega arith) (omega arith) (omega arith) (omega arith) (leads-apart m) (leads-taken r)
 
     pub leads-passed : Joined (LeadsOf ranks q first into) before after
@@ -159,9 +160,9 @@ module _ (over first into : Set) where
 
 -- one turn of the loop, by what its calls answer
 pub rows-turn : (over first into : Set) → over < 2 ^ 64 → {before after : List ℕ} (left t : ℕ) → (left ≡ 0 → ⊥) → left < 2 ^ 64 → t ≡ lowest left → t < 64
-    → ((a : ℕ) → T (has left a) → T (has over a)) → Joined (RowsTaken over first into left) before after → 128 ≤ length after
-    → {w₀ w₁ : Set} → w₀ ≡ union (getD after t 0) first → w₁ ≡ union (getD (set after t w₀) (64 + t) 0) into → {rest : Set} → rest ≡ without left (single (lowest left))
-    → ((a : ℕ) → T (has rest a) → T (has over a)) × Joined (RowsTaken over first into rest) before (set (set after t w₀) (64 + t) w₁)
+    → ((a : ℕ) → T (has left a) → T (has over a)) → Joined (RowsTaken over first into left) before after → 2 * numbers ≤ length after
+    → {w₀ w₁ : Set} → w₀ ≡ union (getD after t 0) first → w₁ ≡ union (getD (set after t w₀) (numbers + t) 0) into → {rest : Set} → rest ≡ without left (single (lowest left))
+    → ((a : ℕ) → T (has rest a) → T (has over a)) × Joined (RowsTaken over first into rest) before (set (set after t w₀) (numbers + t) w₁)
 rows-turn over first into fits left t some l e small within h room f₀ f₁ less =
     let waits : T (has left t) = rw e (has-lowest left (omega arith) l) in
     let less′ = rw (← e) at less in (

@@ -13,6 +13,7 @@ use Rattle.sets.specs.Set.{Set, has, union, without, lowest}
 use Rattle.sets.proofs.Laws.{has-none, has-lt, has-lowest}
 use Rattle.sets.proofs.Algebra.{has-union, without-is, same-sets, union-larger}
 use Rattle.relations.specs.Relation.{Plus, one, more}
+use Rattle.store.specs.Limits.{numbers}
 use Rattle.state.specs.Keeps.{IsSet}
 use Rattle.state.specs.Rows.{InRows}
 use Rattle.state.proofs.Sets.{isSet-as, isSet-union, isSet-without}
@@ -130,7 +131,7 @@ pub still-apart : (all done : ℕ) {left : ℕ} → left ≡ without all done �
 still-apart all done {left} e a d l = without-is all done a .0 (subst (λ (x : ℕ). T (has x a)) e l) .1 d
 
 pub walk-turn : {R : ℕ → ℕ → Type 0} {set all done left : Set} → Walked R set all done left → left < 2 ^ 64
-    → (links : List ℕ) (from : ℕ) → ((t : ℕ) → t < 64 → IsSet (getD links (from + t) 0) (λ a. R a t)) → (rows : Set) → IsSet rows (InRows links from left)
+    → (links : List ℕ) (from : ℕ) → ((t : ℕ) → t < numbers → IsSet (getD links (from + t) 0) (λ a. R a t)) → (rows : Set) → IsSet rows (InRows links from left)
     → {all″ done″ left″ : Set} → all″ ≡ union all rows → done″ ≡ union done left → left″ ≡ without all″ done″ → Walked R set all″ done″ left″
 walk-turn {left = left} w l links from row rows is e f g =
     rw (g, e, f) (walk-on w rows (isSet-as rows (λ a. (λ (t, m, x). (t, m, row t (has-lt 64 left t l m) a .0 x), λ (t, m, r). (t, m, row t (has-lt 64 left t l m) a .1 r))) is))
@@ -140,6 +141,6 @@ none-union : (m : Set) → m ≡ union 0 m
 none-union m = sym (same-sets (union 0 m) m (λ i. has-union 0 m i ∙ ap (λ (b : Bool). b || has m i) (T-false (has 0 i) (has-none i))))
 
 pub walk-first : {R : ℕ → ℕ → Type 0} {set : Set} → set < 2 ^ 64
-    → (links : List ℕ) (from : ℕ) → ((t : ℕ) → t < 64 → IsSet (getD links (from + t) 0) (λ a. R a t)) → (first : Set) → IsSet first (InRows links from set)
+    → (links : List ℕ) (from : ℕ) → ((t : ℕ) → t < numbers → IsSet (getD links (from + t) 0) (λ a. R a t)) → (first : Set) → IsSet first (InRows links from set)
     → {left : Set} → left ≡ without first set → Walked R set first set left
 walk-first {R} {set} l links from row first is e = walk-turn (walk-begins R set) l links from row first is (none-union first) (none-union set) e

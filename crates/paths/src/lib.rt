@@ -1,14 +1,16 @@
 // Paths of links for clauses 6 and 7. The array `links` is described in crates/state (specs/Places.antt, specs/Keeps.antt): for each kind, 0 for
 // clause 6 and 1 for clause 7, a row for each commit with the commits that lead to it by one step; then for each kind and key the commits that
 // a link leads from to a reader of the key, which an RW link brings along to the next writer of the key.
+use state::CommitNumber;
 ghost use mathlib.Core.Path.{_≡_};
 ghost use mathlib.Core.List.{List};
 ghost use Prim.Native.Nat.{ℕ, _*_, _<_, _≤_};
-ghost use lib.ListN.{length};
+ghost use Rattle.store.specs.Limits.{maxKeys, numbers};
 ghost use Rattle.store.specs.Store.{Store, View, Commit, nextNumber};
 ghost use Rattle.store.specs.Update.{update};
 ghost use Rattle.growth.specs.Made.{Made};
 ghost use Rattle.growth.specs.Links.{FromSession, FromRead, FromWrite, ToLater};
+ghost use Rattle.state.specs.Room.{LinksRoom};
 ghost use Rattle.state.specs.Keeps.{IsSet, KeepsLinks, KeepsOperations};
 ghost use Rattle.state.specs.Rows.{InRows};
 ghost use Rattle.paths.specs.Path.{LeadsInto};
@@ -17,14 +19,17 @@ ghost use Rattle.paths.specs.Added.{BroughtBelow, Joined, RowsOf, LeadsO
 // The commits that lead to a member of the set by one or more steps, where `first` are those that do by one: a walk over the rows, each
 // taken once. A round takes the rows of all that the rounds before it found, so that no row waits for another of its round.
 fn walk(links: &[u64], kind: usize, set: u64, first: u64) -> u64
-    requires { ⌜ (length (now links) ≡ 160) × (kind < 2) ⌝ }
-    ensures { λ r. ⌜ ((s : Store) → KeepsLinks s (now (links .entry)) → IsSet first (InRows (now (links .entry)) (64 * kind) set) → IsSet r (LeadsInto kind s set)) ⌝ }
+    requires { ⌜ LinksRoom (now links) × (kind < 2) ⌝ }
+    ensures { λ r. ⌜ ((s : Store) → KeepsLinks s (now (links .entry)) → IsSet first (InRows (now (links .entry)) (numbers * kind) set) → IsSet r (LeadsInto kind s set)) ⌝ }
 {
     let mut all = first;
     let mut done = set;
     let mut left = sets::without(first, set);
     while left != 0 {
-        all = sets::union(all, state::gather(links, 64 * kind, left));
+        all = sets::union(
+            all,
+            state::gather(links, store::Store::NUMBERS * kind, left),
+        );
         done = sets::union(done, left);
         left = sets::without(all, done);
     }
@@ -40,10 +45,10 @@ pub struct Leads {
 // The commits that lead to a member of the set by one or more steps, of clause 6 and of clause 7. The rows of the set itself, which is
 // most of the work, are taken for both at once.
 pub fn leading(links: &[u64], set: u64) -> Leads
-    requires { ⌜ length (now links) ≡ 160 ⌝ }
+    requires { ⌜ LinksRoom (now links) ⌝ }
     ensures { λ r. ⌜ ((s : Store) → KeepsLinks s (now (links .entry)) → IsSet (r .prefix) (LeadsInto 0 s set) × IsSet (r .snapshot) (LeadsInto 1 s set)) ⌝ }
 {
-    let rows = state::gather_two(links, 0, 64, set);
+    let rows = state::gather_two(links, 0, state::SNAPSHOT_LINKS, set);
     let prefix = walk(links, 0, set, rows.first);
     let snapshot = walk(links, 1, set, rows.second);
     Leads { prefix, snapshot }
@@ -51,7 +56,7 @@ pub fn leading(links: &[u64], set: u64) -> Leads
 
 // What the readers of the keys that are written bring along, for clause 6 and for clause 7.
 fn brought(links: &[u64], ranks: u64, n: usize) -> Leads
-    requires { ⌜ (length (now links) ≡ 160) × (n ≤ 16) ⌝ }
+    requires { ⌜ LinksRoom (now links) × (n ≤ maxKeys) ⌝ }
     ensures { λ r. ⌜ IsSet (r .prefix) (BroughtBelow 0 (now (links .entry)) ranks n) × IsSet (r .snapshot) (BroughtBelow 1 (now (links .entry)) ranks n) ⌝ }
 {
     let mut prefix = 0u64;
@@ -59,8 +64,8 @@ fn brought(links: &[u64], ranks: u64, n: usize) -> Leads
     let mut left = state::keys_with(ranks, 1, n);
     while left != 0 {
         let k = sets::lowest(left) / 2;
-        prefix = sets::union(prefix, links[128 + k]);
-        snapshot = sets::union(snapshot, links[144 + k]);
+        prefix = sets::union(prefix, links[state::LEADS + k]);
+        snapshot = sets::union(snapshot, links[state::SNAPSHOT_LEADS + k]);
         left = sets::rest(left);
     }
     Leads { prefix, snapshot }
@@ -68,28 +73,28 @@ fn brought(links: &[u64], ranks: u64, n: usize) -> Leads
 
 // Each commit of `over` gains steps: from `first` for clause 6, from `into` for clause 7.
 fn point(links: &mut [u64], over: u64, first: u64, into: u64)
-    requires { ⌜ length (now links) ≡ 160 ⌝ }
+    requires { ⌜ LinksRoom (now links) ⌝ }
     ensures { λ _. ⌜ Joined (RowsOf over first into) (now (links .entry)) (now (links .exit)) ⌝ }
 {
     let mut left = over;
     while left != 0 {
         let t = sets::lowest(left);
         links[t] = sets::union(links[t], first);
-        links[64 + t] = sets::union(links[64 + t], into);
+        links[state::SNAPSHOT_LINKS + t] = sets::union(links[state::SNAPSHOT_LINKS + t], into);
         left = sets::rest(left);
     }
 }
 
 // Each key that is read gains these among what its readers bring along.
 fn bring(links: &mut [u64], ranks: u64, n: usize, first: u64, into: u64)
-    requires { ⌜ (length (now links) ≡ 160) × (n ≤ 16) ⌝ }
+    requires { ⌜ LinksRoom (now links) × (n ≤ maxKeys) ⌝ }
     ensures { λ _. ⌜ Joined (LeadsOf ranks n first into) (now (links .entry)) (now (links .exit)) ⌝ }
 {
     let mut left = state::keys_with(ranks, 0, n);
     while left != 0 {
         let k = sets::lowest(left) / 2;
-        links[128 + k] = sets::union(links[128 + k], first);
-        links[144 + k] = sets::union(links[144 + k], into);
+        links[state::LEADS + k] = sets::union(links[state::LEADS + k], first);
+        links[state::SNAPSHOT_LEADS + k] = sets::union(links[state::SNAPSHOT_LEADS + k], into);
         left = sets::rest(left);
     }
 }
@@ -98,7 +103,7 @@ fn bring(links: &mut [u64], ranks: u64, n: usize, first: u64, into: u64)
 // `earlier`, and RW leads from it to `over`. RW may follow SO and WR for clause 6, and WW too for clause 7; any of the three leads to it alone.
 pub fn add(
     links: &mut [u64],
-    me: usize,
+    me: CommitNumber,
     so: u64,
     sources: u64,
     earlier: u64,
@@ -106,9 +111,9 @@ pub fn add(
     ranks: u64,
     n: usize,
 )
-    requires { ⌜ (length (now links) ≡ 160) × (me < 64) × (n ≤ 16) ⌝ }
+    requires { ⌜ LinksRoom (now links) × (me .0 < numbers) × (n ≤ maxKeys) ⌝ }
     ensures { λ _. ⌜
-        ((s : Store) (u : View) (c : Commit) (values : List ℕ) → Made s u c → nextNumber s ≡ me → s .keys ≡ n → KeepsOperations c ranks values
+        ((s : Store) (u : View) (c : Commit) (values : List ℕ) → Made s u c → nextNumber s ≡ me .0 → s .keys ≡ n → KeepsOperations c ranks values
         → IsSet so (FromSession s c) → IsSet sources (FromRead s u c) → IsSet earlier (FromWrite s c) → IsSet over (ToLater s u c)
         → KeepsLinks s (now (links .entry)) → KeepsLinks (update s u c) (now (links .exit)))
         ⌝ }
@@ -117,7 +122,8 @@ pub fn add(
     let into = sets::union(first, earlier);
     let more = brought(links, ranks, n);
     point(links, over, first, into);
-    links[me] = sets::union(into, more.prefix);
-    links[64 + me] = sets::union(into, more.snapshot);
+    let t = me.0;
+    links[t] = sets::union(into, more.prefix);
+    links[state::SNAPSHOT_LINKS + t] = sets::union(into, more.snapshot);
     bring(links, ranks, n, first, into);
 }

@@ -1,20 +1,16 @@
 // The report of a trace file, written to standard output. Each line ends with one line feed.
 use judging::Answer;
-use judging::Verdict;
-use judging::Verdicts;
 use libc::STDOUT_FILENO;
 use state::Key;
+use state::Refusal;
 use state::VersionNumber;
+use verdicts::told::Verdict;
+use verdicts::told::Verdicts;
 
 // What the answer for a file is printed as: eleven lines where it was judged, one where it was refused.
 pub fn print(a: Answer) {
     match a {
-        Answer::Refused {
-            code,
-            record,
-            key,
-            version,
-        } => print_refusal(code, record, key, version),
+        Answer::Refused(refusal) => print_refusal(refusal),
         Answer::Judged {
             verdicts,
             records,
@@ -28,9 +24,11 @@ pub fn print(a: Answer) {
 }
 
 // `refused 1 record 0 key 0 version 0`
-fn print_refusal(code: usize, record: usize, key: Key, version: VersionNumber) {
-    print_number(b"refused ", code);
-    print_number(b" record ", record);
+fn print_refusal(r: Refusal) {
+    print_number(b"refused ", r.code);
+    print_number(b" record ", r.record);
+    let key = r.key;
+    let version = r.version;
     print_place(key, version);
     print_text(b"\n");
 }

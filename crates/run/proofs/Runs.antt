@@ -1,10 +1,10 @@
 -- Where a run stands with its arrays: how it begins, goes on, is refused, and ends. Assumes nothing.
-use Prim.Native.Nat.{ℕ, suc, _+_, _-_, _≤_, _<_}
+use Prim.Native.Nat.{ℕ, _+_, _-_, _≤_, _<_}
 use mathlib.Core.Path.{_≡_, refl, sym, ap, _∙_, subst}
 use mathlib.Core.Option.{Option, some, none}
 use mathlib.Core.List.{List}
 use native.Mathlib.Omega.{arith}
-use native.Mathlib.Numerals.{add-one}
+use lib.ListN.{length}
 use Rattle.search.specs.Choose.{orElse}
 use Rattle.endian.specs.Endian.{Bytes}
 use Rattle.store.specs.Limits.{maxClients, maxCommits, minBytes}
@@ -16,10 +16,11 @@ use Rattle.store.specs.View.{FitsView}
 use Rattle.trace.specs.Result.{taken}
 use Rattle.trace.specs.Entry.{Entry, shifting, committing, over, commitMeant, event, eventsOf}
 use Rattle.trace.specs.Format.{Header, commitsWith, entriesFrom}
-use Rattle.trace.specs.Meaning.{RecordSays, InFormAt}
+use Rattle.trace.specs.Meaning.{entryOf, readingOf, RecordSays, InFormAt}
 use Rattle.trace.specs.declared.records.Record.{Record}
+use Rattle.trace.specs.declared.records.Reading.the-variants.{Whole}
 use Rattle.trace.proofs.Decoded.{ReadAt, record-read}
-use Rattle.trace.specs.WellFormed.{ViewsFit, FitsEntry}
+use Rattle.trace.specs.WellFormed.{FitsEntry}
 use Rattle.trace.proofs.Entries.{sound-fits}
 use Rattle.trace.proofs.Fits.{commit-fits}
 use Rattle.trace.proofs.InForm.{First, first-in-form, entries-first}
@@ -28,13 +29,15 @@ use Rattle.state.specs.declared.Key.{Key}
 use Rattle.state.specs.declared.VersionNumber.{VersionNumber}
 use Rattle.state.specs.Keeps.{Keeps}
 use Rattle.verdicts.specs.Verdicts.{KeepsVerdict, KeepsVerdicts}
+use Rattle.shifts.specs.declared.Outcome.{Outcome}
+use Rattle.shifts.specs.declared.Outcome.the-variants.{Taken, Refused}
+use Rattle.shifts.specs.Outcomes.{outcomeOf}
 use Rattle.commits.specs.Records.{ValuesFit}
-use Rattle.run.specs.declared.one.Next.{Next}
-use Rattle.run.specs.declared.one.Next.the-variants.{Goes, Stops}
 use Rattle.run.specs.Along.{ClientsBelow, Along}
 use Rattle.run.specs.Ran.{Starts, Ended}
-use Rattle.run.specs.OneRecord.{Standing, Went, NextSays, Fitting}
-use Rattle.run.proofs.Along.{along-start, Ahead, nothing-left, along-refused, along-end, along-shift, along-commit}
+use Rattle.run.specs.OneRecord.{Readable, Standing, EventDone, Fitting}
+use Rattle.run.proofs.Along.{along-start, nothing-left, commits-after, along-refused, along-end, along-shift, along-commit}
+use Rattle.run.proofs.OneRecord.{record-readable}
 
 abbrev header : ℕ → ℕ → ℕ → Header
 header n clients records = record { keys = n; clients = clients; records = records }
@@ -98,78 +101,76 @@ module _ {file : List ℕ} {n clients records : ℕ} {rs : List Entry} where
       small = s .small;
     }
 
+    -- so many commits are few
+    pub few-made : made ≤ maxCommits
+    few-made = subst (λ (m : ℕ). m ≤ maxCommits) (s .counted) (s .along .few)
+
     -- the record at hand
     pub in-form : 0 < left → InFormAt file at n clients
     in-form some-left = first-in-form file (header n clients records) at number (s .g .store .commits) left some-left (s .along .read)
 
-    module _ (bytes : Bytes file) (few-clients : clients ≤ maxClients) (some-left : 0 < left) (r : Record) (says : RecordSays file at n clients r) where
-      first : First file (header n clients records) number (s .g .store .commits) left r (s .rest)
-      first = entries-first file (header n clients records) at number (s .g .store .commits) left r (says .0 records) some-left (s .along .read)
+    module _ (bytes : Bytes file) (few-clients : clients ≤ maxClients) (some-left : 0 < left) (r : Record) (next : ℕ) (says : RecordSays file at n clients (Whole r next)) where
+      read-again : ReadAt file (header n clients records) (readingOf file n (Whole r next))
+      read-again = subst (ReadAt file (header n clients records)) (sym (says .0 records)) (record-read file bytes (header n clients records) at)
 
-      fits : FitsEntry n clients (first .entry)
-      fits = subst (ReadAt file (header n clients records)) (sym (says .0 records) ∙ first .read) (record-read file bytes (header n clients records) at) .0
+      -- what it says fits, and the next one starts within the file
+      fits : FitsEntry n clients (entryOf file n r)
+      unfolding readingOf
+      fits = read-again .0
 
-      fitting : Fitting file n clients made r (first .entry) (first .next)
-      fitting = record {
-        means = first .read;
-        few-clients = few-clients;
-        fits = fits;
-        room = subst (λ (m : ℕ). commitsWith (first .entry) m ≤ maxCommits) (s .counted) (first .few-commits);
-      }
+      pub next-within : next ≤ length file
+      unfolding readingOf
+      next-within = read-again .1
 
-      ahead-is : Ahead file (header n clients records) (left - 1) number (first .next) (s .g .store .commits) (first .entry) (s .rest)
-      ahead-is = record {
-        after = first .others;
-        first = first .is-first;
-        read = rw (← add-one number) (first .others-read);
-        few = first .few-commits;
-      }
+      first : First file (header n clients records) number (s .g .store .commits) left (entryOf file n r) next (s .rest)
+      unfolding readingOf
+      first = entries-first file (header n clients records) at number (s .g .store .commits) left some-left (s .along .read) (entryOf file n r) next (says .0 records)
 
-      views-fit : ViewsFit n (s .g)
-      views-fit = sound-fits (s .along .sound) (s .along .keys-are)
+      -- there is room for it
+      room : commitsWith (entryOf file n r) made ≤ maxCommits
+      room = subst (λ (m : ℕ). commitsWith (entryOf file n r) m ≤ maxCommits) (s .counted) (first .few-commits)
 
-      along-on : (x : Entry) → FitsEntry n clients x → (next : ℕ) → Ahead file (header n clients records) (left - 1) number next (s .g .store .commits) x (s .rest)
+      pub readable : Readable file n made r
+      readable = record-readable file bytes at n clients made r next few-clients says room
+
+      along-on : (x : Entry) → FitsEntry n clients x → (first : First file (header n clients records) number (s .g .store .commits) left x next (s .rest))
           → refusesEvent number (s .g) (event (s .g) x) ≡ none
-          → (after : List Entry) × Along file (header n clients records) (eventsOf (opening n) rs) (left - 1) next (suc number) (step (s .g) (event (s .g) x)) after (λ l. orElse (s .fs l) (failsEvent l number (s .g) (event (s .g) x)))
+          → Along file (header n clients records) (eventsOf (opening n) rs) (left - 1) next (number + 1) (step (s .g) (event (s .g) x)) (first .others) (λ l. orElse (s .fs l) (failsEvent l number (s .g) (event (s .g) x)))
       unfolding event
-      along-on (shifting d m) f next a q =
-          along-shift file (header n clients records) (eventsOf (opening n) rs) left at number (s .g) (s .rest) (s .fs) (s .along) d m (left - 1) next
-          (subst (λ (k : ℕ). FitsView k (over (s .g .views d) m)) (sym (s .along .keys-are)) (f (s .g) views-fit .view-fits)) a q
-      along-on (committing d v os m) f next a q =
-          let c = commitMeant (s .g) d v os m in
-          let fits = f (s .g) views-fit in
-          along-commit file (header n clients records) (eventsOf (opening n) rs) left at number (s .g) (s .rest) (s .fs) (s .along) d v os m (left - 1) next
-          (subst (λ (k : ℕ). WithinKeys k c) (sym (s .along .keys-are)) (commit-fits n clients c fits)) (omega (arith, fits .client-below)) a q
+      along-on (shifting d l) f first q =
+          let fits = f (s .g) (sound-fits (s .along .sound) (s .along .keys-are)) in
+          along-shift file (header n clients records) (eventsOf (opening n) rs) left at number (s .g) (s .rest) (s .fs) (s .along) d l next first
+          (subst (λ (k : ℕ). FitsView k (over (s .g .views d) l)) (sym (s .along .keys-are)) (fits .view-fits)) q
+      along-on (committing d v os l) f first q =
+          let c = commitMeant (s .g) d v os l in
+          let fits = f (s .g) (sound-fits (s .along .sound) (s .along .keys-are)) in
+          along-commit file (header n clients records) (eventsOf (opening n) rs) left at number (s .g) (s .rest) (s .fs) (s .along) d v os l next first
+          (subst (λ (k : ℕ). WithinKeys k c) (sym (s .along .keys-are)) (commit-fits n clients c fits)) (omega (arith, fits .client-below)) q
 
-      moved : {g : Configuration} {rest : List Entry} {fs : Level → Option Failure} {next place : ℕ} → Along file (header n clients records) (eventsOf (opening n) rs) (left - 1) next (suc number) g rest fs → place ≡ next
-          → Along file (header n clients records) (eventsOf (opening n) rs) (left - 1) place (number + 1) g rest fs
-      moved a q = rw (q, add-one number) a
-
-      module _ (versions′ keys′ views′ seen′ sessions′ commits′ links′ verdicts′ values′ : List ℕ) (x : Next)
-          (answer : (g : Configuration) (fs : Level → Option Failure) (clients : ℕ) (e : Entry) (next : ℕ) → Fitting file n clients made r e next
+      module _ (versions′ keys′ views′ seen′ sessions′ commits′ links′ verdicts′ values′ : List ℕ) (o : Outcome)
+          (answer : (g : Configuration) (fs : Level → Option Failure) (clients : ℕ) → Fitting file n clients r
           → Standing g fs n made versions keys views seen sessions commits links verdicts values
-          → NextSays number g fs (event g e) next versions′ keys′ views′ seen′ sessions′ commits′ links′ verdicts′ values′ x) where
-        said : {y : Next} → x ≡ y → NextSays number (s .g) (s .fs) (event (s .g) (first .entry)) (first .next) versions′ keys′ views′ seen′ sessions′ commits′ links′ verdicts′ values′ y
-        said q =
-            subst (NextSays number (s .g) (s .fs) (event (s .g) (first .entry)) (first .next) versions′ keys′ views′ seen′ sessions′ commits′ links′ verdicts′ values′) q
-            (answer (s .g) (s .fs) clients (first .entry) (first .next) fitting standing)
+          → EventDone number g fs (event g (entryOf file n r)) versions′ keys′ views′ seen′ sessions′ commits′ links′ verdicts′ values′ o) where
+        done : EventDone number (s .g) (s .fs) (event (s .g) (entryOf file n r)) versions′ keys′ views′ seen′ sessions′ commits′ links′ verdicts′ values′ o
+        done = answer (s .g) (s .fs) clients (record { few-clients = few-clients; fits = fits }) standing
 
-        pub run-goes : {place count : ℕ} → x ≡ Goes place count
-            → Stands file n clients records rs (left - 1) place (number + 1) count versions′ keys′ views′ seen′ sessions′ commits′ links′ verdicts′ values′
-        run-goes {place} {count} q =
-            let went : Went number (s .g) (s .fs) (event (s .g) (first .entry)) (first .next) place count versions′ keys′ views′ seen′ sessions′ commits′ links′ verdicts′ values′ = said q in
-            let (after, along) = along-on (first .entry) fits (first .next) ahead-is (went .not-refused) in
+        pub run-goes : {count : ℕ} → o ≡ Taken → count ≡ commitsWith (entryOf file n r) made
+            → Stands file n clients records rs (left - 1) next (number + 1) count versions′ keys′ views′ seen′ sessions′ commits′ links′ verdicts′ values′
+        run-goes {count} q counted =
+            let (keeps, failures) = done .kept q in
             record {
-              g = step (s .g) (event (s .g) (first .entry));
-              rest = after;
-              fs = λ l. orElse (s .fs l) (failsEvent l number (s .g) (event (s .g) (first .entry)));
-              along = moved along (went .place);
-              counted = went .counted;
-              keeps = went .keeps;
-              failures = went .failures;
-              small = went .small;
+              g = step (s .g) (event (s .g) (entryOf file n r));
+              rest = first .others;
+              fs = λ l. orElse (s .fs l) (failsEvent l number (s .g) (event (s .g) (entryOf file n r)));
+              along = along-on (entryOf file n r) fits first (sym (done .answer) ∙ ap (outcomeOf number) q);
+              counted = commits-after (s .g) (entryOf file n r) ∙ ap (commitsWith (entryOf file n r)) (s .counted) ∙ sym counted;
+              keeps = keeps;
+              failures = failures;
+              small = done .small;
             }
 
-        pub run-stops : {code : ℕ} {k : Key} {v : VersionNumber} → x ≡ Stops code k v
+        pub run-stops : {code : ℕ} {k : Key} {v : VersionNumber} → o ≡ Refused code k v
             → firstAlong refusesEvent 1 (opening n) (eventsOf (opening n) rs) ≡ some (record { code = code; atRecord = number; key = k .0; version = v .0 })
-        run-stops q = along-refused file (header n clients records) (eventsOf (opening n) rs) left at number (s .g) (s .rest) (s .fs) (s .along) (first .entry) (first .others) (first .is-first) _ (said q)
+        run-stops q =
+            along-refused file (header n clients records) (eventsOf (opening n) rs) left at number (s .g) (s .rest) (s .fs) (s .along) (entryOf file n r) (first .others) (first .is-first) _
+            (sym (done .answer) ∙ ap (outcomeOf number) q)

@@ -1,9 +1,9 @@
 // The run of a trace, record by record, on the arrays that keep the store: what its records are refused for (codes 9 to 14), what they
 // change, and what the ten levels say of them.
-pub mod one; // one.rt: one record
+mod one; // one.rt: one record
 
-use one::Next;
 use one::one_record;
+use shifts::Outcome;
 use state::Key;
 use state::VersionNumber;
 ghost use Prim.Native.Nat.{_≤_, _<_};
@@ -59,10 +59,11 @@ pub fn run_all(
     let mut made: usize = 0;
     let mut left = records;
     while 0 < left {
-        let r = trace::records::known_at(file, at, n);
-        let next = one_record(
+        let known = trace::records::known_at(file, at, n);
+        let record = known.record;
+        let outcome = one_record(
             file,
-            r,
+            record,
             number,
             made,
             versions,
@@ -77,23 +78,16 @@ pub fn run_all(
             fresh,
             n,
         );
-        match next {
-            Next::Goes {
-                at: place,
-                made: count,
-            } => {
-                at = place;
-                made = count;
-            }
-            Next::Stops { code, key, version } => {
-                return Ran::Refused {
-                    code,
-                    record: number,
-                    key,
-                    version,
-                };
-            }
+        if let Outcome::Refused { code, key, version } = outcome {
+            return Ran::Refused {
+                code,
+                record: number,
+                key,
+                version,
+            };
         }
+        made = trace::records::commits_with(record, made);
+        at = known.next;
         number = number + 1;
         left = left - 1;
     }

@@ -1,11 +1,11 @@
--- Laws of `choose` and `need`. What is defined by a row of tests is reasoned about through these, with both shut. Assumes nothing.
+-- Laws of `choose`, `need` and `when`. What is defined by a row of tests is reasoned about through these, with all three shut. Assumes nothing.
 use Prim.Native.Nat.{ℕ}
 use mathlib.Core.Path.{_≡_, refl}
 use mathlib.Core.Logic.{_≢_}
 use mathlib.Core.Bool.{Bool, true, false, not}
 use lib.Dec.{T, eqb, eqb-refl}
 use mir.Facts.{no-eqb}
-use Rattle.search.specs.Choose.{choose, need}
+use Rattle.search.specs.Choose.{isSome, choose, need, when}
 
 -- ---- a choice
 
@@ -62,3 +62,10 @@ module _ {ℓ} {A : Type ℓ} where
   unfolding need
   need-taken true bad rest n e = (tt, e)
   need-taken false bad rest n e = absurd (n e)
+
+-- ---- an answer where a test holds
+
+pub isSome-when : {A : Type 0} (b : Bool) (a : A) → isSome (when b a) ≡ b
+unfolding isSome when
+isSome-when true a = refl
+isSome-when false a = refl

@@ -88,7 +88,7 @@ pub fn rest(m: u64) -> u64
 
 // How many numbers the set holds.
 pub fn size(m: u64) -> usize
-    ensures { λ r. ⌜ r ≡ size m ⌝ }
+    ensures { λ r. ⌜ (r ≡ size m) × (r ≤ 64) ⌝ }
 {
     u64::count_ones(m) as usize
 }

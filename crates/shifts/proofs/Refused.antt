@@ -1,8 +1,8 @@
 -- What the judge answers of a shift is what the spec answers: one lemma for each answer. Assumes nothing.
 use Prim.Native.Nat.{ℕ, _+_, _*_, _<_}
-use mathlib.Core.Path.{_≡_, sym, ap, _∙_}
-use mathlib.Core.Option.{some, none}
-use mathlib.Core.List.{List}
+use mathlib.Core.Path.{_≡_, refl, sym, ap, _∙_}
+use mathlib.Core.Option.{Option, some, none}
+use mathlib.Core.List.{List, [], _∷_}
 use native.Mathlib.Omega.{arith}
 use lib.Dec.{ltb, lt→ltb}
 use lib.ListN.{length, getD}
@@ -14,55 +14,66 @@ use Rattle.store.specs.Limits.{maxKeys, maxClients}
 use Rattle.store.specs.Store.{Client, View, Store, Configuration, shift}
 use Rattle.store.specs.Missing.{Place, missing}
 use Rattle.store.specs.Refusal.{Refusal, badMask, halfHeld, allOf, lost, refuseKey, refusePlace, refusesEvent}
+use Rattle.state.specs.Keeps.{KeepsMasks}
 use Rattle.views.specs.Viewed.{NewMasks}
 use Rattle.trace.specs.Format.{viewAt}
 use Rattle.shifts.specs.declared.Outcome.{Outcome}
 use Rattle.shifts.specs.declared.Outcome.the-variants.{Taken}
-use Rattle.shifts.specs.Outcomes.{outcomeOf, Masks, ShiftTo, ShiftGiven}
+use Rattle.shifts.specs.Outcomes.{outcomeOf, maskRefusal, ShiftGiven}
 
--- ---- codes 10, 11 and 12, in this order, and none
+-- ---- codes 10 and 11, in this order, and none of them
+
+module _ (i : ℕ) (s : Store) (u : View) {a : Refusal} where
+  pub bad-refused : {k : ℕ} → badMask s u ≡ some k → a ≡ refuseKey 10 i k → maskRefusal i s u ≡ some a
+  unfolding maskRefusal firstSome mapSome orElse
+  bad-refused e q = rw (e, q)
+
+  pub half-refused : {p : Place} → badMask s u ≡ none → halfHeld s u ≡ some p → a ≡ refusePlace 11 i p → maskRefusal i s u ≡ some a
+  unfolding maskRefusal firstSome mapSome orElse
+  half-refused e h q = rw (e, h, q)
+
+pub masks-good : (i : ℕ) (s : Store) (u : View) → badMask s u ≡ none → halfHeld s u ≡ none → maskRefusal i s u ≡ none
+unfolding maskRefusal firstSome mapSome orElse
+masks-good i s u e h = rw (e, h)
+
+-- the first of two answers, or a third
+pub third-or : {A : Type 0} (a b c : Option A) → firstSome (a ∷ b ∷ c ∷ []) ≡ orElse (firstSome (a ∷ b ∷ [])) c
+unfolding firstSome orElse
+third-or (some x) b c = refl
+third-or none (some x) c = refl
+third-or none none (some x) = refl
+third-or none none none = refl
+
+-- ---- and code 12
 
 module _ (i : ℕ) (g : Configuration) (d : Client) (u : View) where
-  pub refused-10 : (k : ℕ) → badMask (g .store) u ≡ some k → some (refuseKey 10 i k) ≡ refusesEvent i g (shift d u)
-  unfolding refusesEvent firstSome mapSome orElse
-  refused-10 k a = rw a
+  shift-refusal : refusesEvent i g (shift d u) ≡ orElse (maskRefusal i (g .store) u) (mapSome (refusePlace 12 i) (lost (g .store) (g .views d) u))
+  unfolding refusesEvent maskRefusal
+  shift-refusal = third-or _ _ _
 
-  pub refused-11 : (p : Place) → badMask (g .store) u ≡ none → halfHeld (g .store) u ≡ some p → some (refusePlace 11 i p) ≡ refusesEvent i g (shift d u)
-  unfolding refusesEvent firstSome mapSome orElse
-  refused-11 p a b = rw (a, b)
+  pub refused-masks : {a : Refusal} → maskRefusal i (g .store) u ≡ some a → some a ≡ refusesEvent i g (shift d u)
+  unfolding orElse
+  refused-masks e = sym (rw e at shift-refusal)
 
-  pub refused-12 : (p : Place) → badMask (g .store) u ≡ none → halfHeld (g .store) u ≡ none → missing (g .store) (allOf (g .views d)) u ≡ some p
-      → some (refusePlace 12 i p) ≡ refusesEvent i g (shift d u)
-  unfolding refusesEvent firstSome mapSome orElse lost
-  refused-12 p a b c = rw (a, b, c)
+  pub refused-12 : {a : Refusal} {p : Place} → maskRefusal i (g .store) u ≡ none → missing (g .store) (allOf (g .views d)) u ≡ some p → a ≡ refusePlace 12 i p
+      → some a ≡ refusesEvent i g (shift d u)
+  unfolding orElse mapSome lost
+  refused-12 e h q = rw q (sym (rw (e, h) at shift-refusal))
 
-  pub not-refused : badMask (g .store) u ≡ none → halfHeld (g .store) u ≡ none → missing (g .store) (allOf (g .views d)) u ≡ none → none ≡ refusesEvent i g (shift d u)
-  unfolding refusesEvent firstSome mapSome orElse lost
-  not-refused a b c = rw (a, b, c)
+  pub not-refused : maskRefusal i (g .store) u ≡ none → missing (g .store) (allOf (g .views d)) u ≡ none → none ≡ refusesEvent i g (shift d u)
+  unfolding orElse mapSome lost
+  not-refused e h = sym (rw (e, h) at shift-refusal)
 
 -- a refusal is not that the record is taken
-pub not-taken : {X : Type 0} (r : Outcome) {a : Refusal} → outcomeOf 0 r ≡ some a → r ≡ Taken → X
-not-taken r e t = some-none (sym e ∙ ap (outcomeOf 0) t)
+pub not-taken : {X : Type 0} (r : Outcome) {a : Refusal} → outcomeOf r ≡ some a → r ≡ Taken → X
+not-taken r e t = some-none (sym e ∙ ap outcomeOf t)
 
 -- ---- what is given, as each call asks it
 
--- the masks of the record, where code 10 is not due
-pub new-masks : (s : Store) (old u : View) (n : ℕ) (versions keys masks : List ℕ) (base seen : ℕ) (fresh : List ℕ) → Masks s old u n versions keys masks base seen fresh
-    → badMask s u ≡ none → NewMasks s old u n versions keys masks base seen fresh
-new-masks s old u n versions keys masks base seen fresh m e = record {
-  arrays = m .arrays;
-  ordered = m .ordered;
-  view = m .view;
-  seen-is = m .seen-is;
-  in-fresh = m .in-fresh;
-  fits = m .fits;
-  good = e;
-}
-
 -- the masks of the record, and the client's view
-pub masks-given : (g : Configuration) (u : View) (client n : ℕ) (versions keys views seen fresh : List ℕ) → client < maxClients → ShiftTo g u client n versions keys views seen fresh
-    → Masks (g .store) (g .views client) u n versions keys views (16 * client) (getD seen client 0) fresh
-masks-given g u client n versions keys views seen fresh b h = record {
+pub masks-given : (g : Configuration) (u : View) (client n : ℕ) (versions keys views seen fresh : List ℕ) → client < maxClients → ShiftGiven g u n versions keys views seen → KeepsMasks n u fresh
+    → NewMasks (g .store) (g .views client) u n versions keys views (maxKeys * client) (getD seen client 0) fresh
+masks-given g u client n versions keys views seen fresh b h f = record {
   arrays = record {
     number = h .keys-are;
     sound = h .sound .store;
@@ -74,26 +85,15 @@ masks-given g u client n versions keys views seen fresh b h = record {
   ordered = h .ordered;
   view = h .sound .views client;
   seen-is = h .in-views .holds client b;
-  in-fresh = h .in-fresh;
+  in-fresh = f;
   fits = h .fits;
 }
 
-mask-read : (file : List ℕ) (masks n k : ℕ) → k < n → viewAt file masks n k ≡ leAt file (masks + 8 * k) 8
+-- the masks of a record, once they are read
+pub masks-read : (file : List ℕ) (masks n : ℕ) (fresh : List ℕ) → length fresh ≡ maxKeys → ((k : ℕ) → k < n → getD fresh k 0 ≡ leAt file (masks + 8 * k) 8)
+    → KeepsMasks n (viewAt file masks n) fresh
 unfolding viewAt
-mask-read file masks n k l = choose-yes (ltb k n) (leAt file (masks + 8 * k) 8) 0 (lt→ltb k n l)
-
--- the masks in the file, once they are read
-pub shift-to : (g : Configuration) (file : List ℕ) (masks client n : ℕ) (versions keys views seen fresh : List ℕ) → ShiftGiven g file masks client n versions keys views seen
-    → length fresh ≡ maxKeys → ((k : ℕ) → k < n → getD fresh k 0 ≡ leAt file (masks + 8 * k) 8)
-    → ShiftTo g (viewAt file masks n) client n versions keys views seen fresh
-shift-to g file masks client n versions keys views seen fresh h e f = record {
-  sound = h .sound;
-  ordered = h .ordered;
-  few = h .few;
-  keys-are = h .keys-are;
-  in-versions = h .in-versions;
-  in-keys = h .in-keys;
-  in-views = h .in-views;
-  in-fresh = record { room = e; masks = λ k l. f k l ∙ sym (mask-read file masks n k l) };
-  fits = h .fits;
+masks-read file masks n fresh long same = record {
+  room = long;
+  masks = λ k l. same k l ∙ sym (choose-yes (ltb k n) (leAt file (masks + 8 * k) 8) 0 (lt→ltb k n l));
 }

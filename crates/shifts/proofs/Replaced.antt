@@ -1,18 +1,16 @@
 -- One client's view is replaced in the arrays, and the commits that it holds with it. Assumes nothing.
 use Prim.Native.Nat.{ℕ, _+_, _*_, _≤_, _<_}
-use mathlib.Core.Path.{_≡_, refl, sym, ap, _∙_, subst}
+use mathlib.Core.Path.{_≡_, sym, ap, _∙_, subst}
 use mathlib.Core.Logic.{_⊎_, inl, inr, _↔_, _≢_}
 use mathlib.Core.List.{List}
 use native.Mathlib.Omega.{arith}
 use native.Mathlib.Decide.{ℕ-discrete, decLt}
-use lib.Dec.{T}
-use lib.ListN.{length, getD, set, length-set}
+use lib.ListN.{getD, set, length-set}
 use lib.Seq.{getD-set-same, getD-set-other}
-use Rattle.search.proofs.Tests.{both}
 use Rattle.dependencies.specs.History.{Holds}
 use Rattle.store.specs.Limits.{maxKeys, maxClients}
-use Rattle.store.specs.Store.{Client, View, Store, Configuration, Commit, shift, commit}
-use Rattle.store.specs.Update.{atNumber, update, step, viewBefore, storeAfter}
+use Rattle.store.specs.Store.{Client, View, Configuration, Commit, shift, commit}
+use Rattle.store.specs.Update.{update, step, viewBefore, storeAfter}
 use Rattle.store.proofs.Updated.{at-same, at-other}
 use Rattle.store.specs.Sound.{Sound}
 use Rattle.store.specs.History.{history, held}

@@ -10,15 +10,15 @@ use Rattle.store.specs.Update.{step}
 use Rattle.store.specs.Refusal.{refusesEvent}
 use Rattle.store.specs.View.{FitsView}
 use Rattle.store.proofs.Legal.{legal-shift}
-use Rattle.state.specs.Keeps.{IsSet, KeepsViews}
+use Rattle.state.specs.Keeps.{IsSet, KeepsMasks, KeepsViews}
 use Rattle.views.specs.Rows.{Kept}
 use Rattle.views.specs.Gained.{WriterBelow}
 use Rattle.views.proofs.AtOnce.{full-is-view, full-has, full-holds-all}
-use Rattle.shifts.specs.Outcomes.{ShiftTo}
+use Rattle.shifts.specs.Outcomes.{ShiftGiven}
 use Rattle.shifts.proofs.Replaced.{shift-replaces}
 
-module _ (g : Configuration) (u : View) (client n : ℕ) (versions keys views seen fresh : List ℕ) (h : ShiftTo g u client n versions keys views seen fresh)
-    (e : (k : ℕ) → k < n → getD fresh k 0 ≡ getD keys (0 + k) 0) where
+module _ (g : Configuration) (u : View) (client n : ℕ) (versions keys views seen fresh : List ℕ) (h : ShiftGiven g u n versions keys views seen)
+    (in-fresh : KeepsMasks n u fresh) (e : (k : ℕ) → k < n → getD fresh k 0 ≡ getD keys (0 + k) 0) where
   fits : FitsView (g .store .keys) u
   fits = rw (h .keys-are) (h .fits)
 
@@ -26,13 +26,13 @@ module _ (g : Configuration) (u : View) (client n : ℕ) (versions keys views se
   pub whole-not-refused : (i : ℕ) → none ≡ refusesEvent i g (shift client u)
   whole-not-refused i =
       sym (legal-shift i g client u (h .sound) fits .1 (record {
-        view = full-is-view (g .store) u n keys fresh (h .keys-are) (h .sound .store) (h .in-keys) (h .in-fresh) e (h .fits);
-        grows = λ k v x. full-has (g .store) u n keys fresh (h .keys-are) (h .sound .store) (h .in-keys) (h .in-fresh) e k v (h .sound .views client .exist k v x);
+        view = full-is-view (g .store) u n keys fresh (h .keys-are) (h .sound .store) (h .in-keys) in-fresh e (h .fits);
+        grows = λ k v x. full-has (g .store) u n keys fresh (h .keys-are) (h .sound .store) (h .in-keys) in-fresh e k v (h .sound .views client .exist k v x);
       }))
 
   -- and the views after the shift are kept
   pub whole-kept : n ≤ maxKeys → client < maxClients → (all : ℕ) {views′ : List ℕ} → Kept fresh (maxKeys * client) n views views′ → IsSet all (WriterBelow keys n)
       → KeepsViews (step g (shift client u)) views′ (set seen client all)
   whole-kept few b all {views′} k w =
-      shift-replaces g client u n few (h .keys-are) b views views′ seen fresh all (h .in-views) (h .in-fresh) k
-      (full-holds-all (g .store) u n keys fresh (h .keys-are) (h .sound .store) (h .in-keys) (h .in-fresh) e all w)
+      shift-replaces g client u n few (h .keys-are) b views views′ seen fresh all (h .in-views) in-fresh k
+      (full-holds-all (g .store) u n keys fresh (h .keys-are) (h .sound .store) (h .in-keys) in-fresh e all w)

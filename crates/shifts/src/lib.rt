@@ -2,22 +2,16 @@
 pub mod masks; // masks.rt: the masks of a record against the store
 pub mod shift; // shift.rt: one shift
 
-use state::Key;
-use state::VersionNumber;
+use state::Refusal;
 
-// What a record comes to: it is taken, or refused with a code that names a key and a version (0 where not named).
+// What a record comes to: it is taken or refused.
 pub enum Outcome {
     Taken,
-    Refused {
-        code: usize,
-        key: Key,
-        version: VersionNumber,
-    },
+    Refused(Refusal),
 }
 
-// What the masks of a record come to: the commits of which they hold a version, or code 10 with its key, or code 11 with its place.
+// What the masks of a record come to: the commits of which they hold a version, or the refusal of the record by code 10 or 11.
 pub enum Sight {
     Holds(u64),
-    Bad(Key),
-    Half(Key, VersionNumber),
+    Bad(Refusal),
 }

@@ -4,18 +4,20 @@ use crate::Outcome;
 use crate::Sight;
 use crate::masks;
 use state::Found;
-use state::VersionNumber;
+use state::Refusal;
 ghost use Prim.Native.Nat.{ℕ, _+_, _*_, _≤_, _<_};
 ghost use mathlib.Core.Path.{_≡_};
 ghost use mathlib.Core.List.{List};
 ghost use lib.ListN.{length, getD};
+ghost use Rattle.store.specs.Limits.{maxKeys, maxClients};
 ghost use Rattle.store.specs.Store.{View, Configuration, shift};
 ghost use Rattle.store.specs.Update.{step};
 ghost use Rattle.store.specs.Refusal.{refusesEvent};
-ghost use Rattle.state.specs.Keeps.{KeepsViews};
+ghost use Rattle.state.specs.Room.{VersionsRoom, KeysRoom, ViewsRoom, SeenRoom, FreshRoom};
+ghost use Rattle.state.specs.Keeps.{KeepsViews, KeepsMasks};
 ghost use Rattle.trace.specs.Format.{viewAt};
 ghost use Rattle.shifts.specs.declared.Outcome.the-variants.{Taken};
-ghost use Rattle.shifts.specs.Outcomes.{outcomeOf, ShiftGiven, ShiftTo};
+ghost use Rattle.shifts.specs.Outcomes.{outcomeOf, ShiftGiven};
 
 // The masks in `fresh` are all versions that there are: no code is due, and they become the client's view, which holds all commits that wrote
 // something.
@@ -27,25 +29,26 @@ fn whole_store(
     fresh: &[u64],
     n: usize,
 ) -> Outcome
-    requires { ⌜ (n ≤ 16) × (client < 16) × (length (now keys) ≡ 32) × (length (now views) ≡ 256) × (length (now seen) ≡ 16) × (length (now fresh) ≡ 16) ⌝ }
+    requires { ⌜ (n ≤ maxKeys) × (client < maxClients) × KeysRoom (now keys) × ViewsRoom (now views) × SeenRoom (now seen) × FreshRoom (now fresh) ⌝ }
     requires { ⌜ ((k : ℕ) → k < n → getD (now fresh) k 0 ≡ getD (now keys) (0 + k) 0) ⌝ }
     ensures answer { λ r. ⌜
-        ((g : Configuration) (u : View) (versions : List ℕ) (i : ℕ) → ShiftTo g u client n versions (now (keys .entry)) (now (views .entry)) (now (seen .entry)) (now (fresh .entry))
-        → outcomeOf i r ≡ refusesEvent i g (shift client u))
+        ((g : Configuration) (u : View) (versions : List ℕ) (i : ℕ) → ShiftGiven g u n versions (now (keys .entry)) (now (views .entry)) (now (seen .entry)) → KeepsMasks n u (now (fresh .entry))
+        → outcomeOf r ≡ refusesEvent i g (shift client u))
         ⌝ }
     ensures kept { λ r. ⌜
-        ((g : Configuration) (u : View) (versions : List ℕ) → ShiftTo g u client n versions (now (keys .entry)) (now (views .entry)) (now (seen .entry)) (now (fresh .entry))
+        ((g : Configuration) (u : View) (versions : List ℕ) → ShiftGiven g u n versions (now (keys .entry)) (now (views .entry)) (now (seen .entry)) → KeepsMasks n u (now (fresh .entry))
         → r ≡ Taken → KeepsViews (step g (shift client u)) (now (views .exit)) (now (seen .exit)))
         ⌝ }
 {
-    views::masks::keep(views, 16 * client, fresh, n);
+    views::masks::keep(views, state::PER_CLIENT * client, fresh, n);
     seen[client] = views::held::all_writers(keys, n);
     Outcome::Taken
 }
 
-// Codes 10, 11 and 12 of the masks in `fresh`; where none is due, they become the client's view. The commonest masks, all versions that there are,
+// Codes 10, 11 and 12 of the masks in `fresh`, of the record of this number; where none is due, they become the client's view. The commonest masks, all versions that there are,
 // are answered first.
 fn shift_on(
+    number: usize,
     client: usize,
     versions: &[u64],
     keys: &[u64],
@@ -54,39 +57,26 @@ fn shift_on(
     fresh: &[u64],
     n: usize,
 ) -> Outcome
-    requires { ⌜ (1 ≤ n) × (n ≤ 16) × (client < 16) ⌝ }
-    requires { ⌜ (length (now versions) ≡ 2048) × (length (now keys) ≡ 32) × (length (now views) ≡ 256) × (length (now seen) ≡ 16) × (length (now fresh) ≡ 16) ⌝ }
+    requires { ⌜ (1 ≤ n) × (n ≤ maxKeys) × (client < maxClients) ⌝ }
+    requires { ⌜ VersionsRoom (now versions) × KeysRoom (now keys) × ViewsRoom (now views) × SeenRoom (now seen) × FreshRoom (now fresh) ⌝ }
     ensures answer { λ r. ⌜
-        ((g : Configuration) (u : View) (i : ℕ) → ShiftTo g u client n (now (versions .entry)) (now (keys .entry)) (now (views .entry)) (now (seen .entry)) (now (fresh .entry))
-        → outcomeOf i r ≡ refusesEvent i g (shift client u))
+        ((g : Configuration) (u : View) → ShiftGiven g u n (now (versions .entry)) (now (keys .entry)) (now (views .entry)) (now (seen .entry)) → KeepsMasks n u (now (fresh .entry))
+        → outcomeOf r ≡ refusesEvent number g (shift client u))
         ⌝ }
     ensures kept { λ r. ⌜
-        ((g : Configuration) (u : View) → ShiftTo g u client n (now (versions .entry)) (now (keys .entry)) (now (views .entry)) (now (seen .entry)) (now (fresh .entry))
+        ((g : Configuration) (u : View) → ShiftGiven g u n (now (versions .entry)) (now (keys .entry)) (now (views .entry)) (now (seen .entry)) → KeepsMasks n u (now (fresh .entry))
         → r ≡ Taken → KeepsViews (step g (shift client u)) (now (views .exit)) (now (seen .exit)))
         ⌝ }
 {
     if views::masks::same(fresh, keys, 0, n) {
         return whole_store(client, keys, views, seen, fresh, n);
     }
-    let base = 16 * client;
-    match masks::sight(versions, keys, fresh, views, base, seen[client], n) {
-        Sight::Bad(k) => Outcome::Refused {
-            code: 10,
-            key: k,
-            version: VersionNumber(0),
-        },
-        Sight::Half(k, v) => Outcome::Refused {
-            code: 11,
-            key: k,
-            version: v,
-        },
+    let base = state::PER_CLIENT * client;
+    match masks::sight(number, versions, keys, fresh, views, base, seen[client], n) {
+        Sight::Bad(r) => Outcome::Refused(r),
         Sight::Holds(m) => {
             if let Found::At(k, v) = views::masks::lost(fresh, views, base, n) {
-                return Outcome::Refused {
-                    code: 12,
-                    key: k,
-                    version: v,
-                };
+                return Outcome::Refused(Refusal::of_version(12, number, k, v));
             }
             views::masks::keep(views, base, fresh, n);
             seen[client] = m;
@@ -95,10 +85,12 @@ fn shift_on(
     }
 }
 
-// Codes 10, 11 and 12 of the masks at a place of the file, which are read into `fresh`; where none is due, they become the client's view.
+// Codes 10, 11 and 12 of the masks at a place of the file, those of the record of this number, which are read into `fresh`; where none is due, they become
+// the client's view.
 pub fn shift_to(
     file: &[u8],
     masks: usize,
+    number: usize,
     client: usize,
     versions: &[u64],
     keys: &[u64],
@@ -107,17 +99,17 @@ pub fn shift_to(
     fresh: &mut [u64],
     n: usize,
 ) -> Outcome
-    requires { ⌜ (1 ≤ n) × (n ≤ 16) × (client < 16) × (masks + 8 * n ≤ length (now file)) ⌝ }
-    requires { ⌜ (length (now versions) ≡ 2048) × (length (now keys) ≡ 32) × (length (now views) ≡ 256) × (length (now seen) ≡ 16) × (length (now fresh) ≡ 16) ⌝ }
+    requires { ⌜ (1 ≤ n) × (n ≤ maxKeys) × (client < maxClients) × (masks + 8 * n ≤ length (now file)) ⌝ }
+    requires { ⌜ VersionsRoom (now versions) × KeysRoom (now keys) × ViewsRoom (now views) × SeenRoom (now seen) × FreshRoom (now fresh) ⌝ }
     ensures answer { λ r. ⌜
-        ((g : Configuration) (i : ℕ) → ShiftGiven g (now (file .entry)) masks client n (now (versions .entry)) (now (keys .entry)) (now (views .entry)) (now (seen .entry))
-        → outcomeOf i r ≡ refusesEvent i g (shift client (viewAt (now (file .entry)) masks n)))
+        ((g : Configuration) → ShiftGiven g (viewAt (now (file .entry)) masks n) n (now (versions .entry)) (now (keys .entry)) (now (views .entry)) (now (seen .entry))
+        → outcomeOf r ≡ refusesEvent number g (shift client (viewAt (now (file .entry)) masks n)))
         ⌝ }
     ensures kept { λ r. ⌜
-        ((g : Configuration) → ShiftGiven g (now (file .entry)) masks client n (now (versions .entry)) (now (keys .entry)) (now (views .entry)) (now (seen .entry))
+        ((g : Configuration) → ShiftGiven g (viewAt (now (file .entry)) masks n) n (now (versions .entry)) (now (keys .entry)) (now (views .entry)) (now (seen .entry))
         → r ≡ Taken → KeepsViews (step g (shift client (viewAt (now (file .entry)) masks n))) (now (views .exit)) (now (seen .exit)))
         ⌝ }
 {
     trace::contents::masks_into(file, masks, fresh, n);
-    shift_on(client, versions, keys, views, seen, fresh, n)
+    shift_on(number, client, versions, keys, views, seen, fresh, n)
 }

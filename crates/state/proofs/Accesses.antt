@@ -13,6 +13,7 @@ use Rattle.search.proofs.Tests.{false-T, eq-test, and-is, not-is, stable, same}
 use Rattle.sets.specs.Set.{Set, has, single, below, without, lowest}
 use Rattle.sets.proofs.Laws.{has-none, has-lt, has-below, below-has, below-word, has-lowest, lowest-least, single-only, single-has}
 use Rattle.sets.proofs.Algebra.{both-is, without-is, without-word}
+use Rattle.store.specs.Limits.{maxKeys}
 use Rattle.state.specs.Accesses.{rank, Left}
 
 -- ---- one turn of the loop
@@ -99,7 +100,7 @@ rank-is zero q l = omega arith
 rank-is (suc zero) q l = refl
 rank-is (suc (suc a)) q l = absurd (omega arith)
 
-pub left-starts : (ranks access n : ℕ) → ranks < 2 ^ 64 → access < 2 → n ≤ 16 → {b : Set} → b ≡ below (2 * n) → Left ranks access n 0 (bitAnd (bitAnd (ranks / 2 ^ access) evens) b)
+pub left-starts : (ranks access n : ℕ) → ranks < 2 ^ 64 → access < 2 → n ≤ maxKeys → {b : Set} → b ≡ below (2 * n) → Left ranks access n 0 (bitAnd (bitAnd (ranks / 2 ^ access) evens) b)
 left-starts ranks access n l a s e = subst (λ (x : ℕ). Left ranks access n 0 (bitAnd (bitAnd (ranks / 2 ^ access) evens) x)) (sym e) record {
   word = omega (arith, and-le-r (bitAnd (ranks / 2 ^ access) evens) (below (2 * n)), below-word (2 * n) (omega arith));
   only = λ i t. let (y, b) = both-is _ _ i .0 t in let (x, c) = both-is _ _ i .0 y in

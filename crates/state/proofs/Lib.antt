@@ -1,5 +1,6 @@
 pub mod Opening
 pub mod Sets
 pub mod Accesses
+pub mod Ranks
 pub mod Gathering
 pub mod Below

@@ -21,7 +21,7 @@ use Rattle.store.specs.History.{Wrote, history, held}
 use Rattle.store.proofs.Sound.{opening-first, sound-opening}
 use Rattle.store.proofs.Opening.{opening-history}
 use Rattle.growth.specs.Sessions.{ReadUpTo}
-use Rattle.state.specs.Places.{perKey, numbers, headPlace, readersPlace, viewPlace, linkPlace, leadPlace}
+use Rattle.state.specs.Places.{headPlace, readersPlace, fullPlace, writersPlace, viewPlace, commitsPlace, drawnPlace, barPlace, beforePlace, readPlace, linkPlace, leadPlace, versionsLength, keysLength, viewsLength, seenLength, sessionsLength, commitsLength, linksLength}
 use Rattle.state.specs.Keeps.{IsSet, KeepsVersions, KeepsKeys, KeepsViews, KeepsSessions, KeepsCommits, KeepsLinks, Keeps, WroteKey, CommitOf, FirstLink, Step}
 
 -- an array of n words x
@@ -74,29 +74,29 @@ module _ (keys : ℕ) where
       let n : 0 < count s k = let e = one-version k l in omega arith in
       (n, ap (λ (v : Version). v .writer) (first-version k 0 n))
 
-  keeps-versions : KeepsVersions s (filled (2 * (perKey * maxKeys)) 0)
+  keeps-versions : KeepsVersions s (filled versionsLength 0)
   keeps-versions = record {
-    room = filled-length (2 * (perKey * maxKeys)) 0;
-    heads = λ k i l. zeros (2 * (perKey * maxKeys)) (headPlace k i) ∙ ap (λ (v : Version). v .value + 2 ^ 32 * v .writer) (sym (first-version k i l));
-    readers = λ k i l. zeros (2 * (perKey * maxKeys)) (readersPlace k i) ∙ ap (λ (v : Version). v .readers) (sym (first-version k i l));
+    room = filled-length versionsLength 0;
+    heads = λ k i l. zeros versionsLength (headPlace k i) ∙ ap (λ (v : Version). v .value + 2 ^ 32 * v .writer) (sym (first-version k i l));
+    readers = λ k i l. zeros versionsLength (readersPlace k i) ∙ ap (λ (v : Version). v .readers) (sym (first-version k i l));
     value-fits = λ k i l. subst (λ (v : Version). v .value < 2 ^ 32) (sym (first-version k i l)) (lit< tt);
   }
 
-  keeps-keys : keys ≤ maxKeys → KeepsKeys s (filled (2 * maxKeys) 1)
+  keeps-keys : keys ≤ maxKeys → KeepsKeys s (filled keysLength 1)
   unfolding opening openingStore
   keeps-keys few = record {
-    room = filled-length (2 * maxKeys) 1;
-    full = λ k l. ones (2 * maxKeys) k (omega arith) ∙ ap below (sym (one-version k l));
-    writers = λ k l. zero-alone _ (ones (2 * maxKeys) (maxKeys + k) (omega arith)) (0, wrote-first k l) (λ t (i, w). o .only-first t k i w .0);
+    room = filled-length keysLength 1;
+    full = λ k l. ones keysLength (fullPlace k) (omega arith) ∙ ap below (sym (one-version k l));
+    writers = λ k l. zero-alone _ (ones keysLength (writersPlace k) (omega arith)) (0, wrote-first k l) (λ t (i, w). o .only-first t k i w .0);
   }
 
-  keeps-views : 1 ≤ keys → keys ≤ maxKeys → KeepsViews (opening keys) (filled (maxClients * maxKeys) 1) (filled maxClients 1)
+  keeps-views : 1 ≤ keys → keys ≤ maxKeys → KeepsViews (opening keys) (filled viewsLength 1) (filled seenLength 1)
   unfolding opening openingStore
   keeps-views some few = record {
-    room = filled-length (maxClients * maxKeys) 1;
-    rows = λ d b k l. ones (maxClients * maxKeys) (viewPlace d k) (omega arith) ∙ sym (choose-yes (ltb k keys) 1 0 (lt→ltb k keys l));
-    seen-room = filled-length maxClients 1;
-    holds = λ d b. zero-alone _ (ones maxClients d b)
+    room = filled-length viewsLength 1;
+    rows = λ d b k l. ones viewsLength (viewPlace d k) (omega arith) ∙ sym (choose-yes (ltb k keys) 1 0 (lt→ltb k keys l));
+    seen-room = filled-length seenLength 1;
+    holds = λ d b. zero-alone _ (ones seenLength d b)
         (0, 0, sound-opening keys .views d .opened 0 some, wrote-first 0 some)
         (λ t (k, i, x, w). o .only-first t k i w .0);
   }
@@ -107,21 +107,21 @@ module _ (keys : ℕ) where
   no-link : {a b : ℕ} → ¬ PlainLink (history s) a b
   no-link = no-plain (history s) o
 
-  keeps-sessions : KeepsSessions s (filled (3 * maxClients) 0)
+  keeps-sessions : KeepsSessions s (filled sessionsLength 0)
   keeps-sessions = record {
-    room = filled-length (3 * maxClients) 0;
-    commits-of = λ d b. nothing-in _ (zeros (3 * maxClients) d) (no-commit d);
-    drawn = λ d b. nothing-in _ (zeros (3 * maxClients) (maxClients + d)) (λ w (t, c, r). no-commit d t c);
-    bar = λ d b x. (λ l. let z = zeros (3 * maxClients) (2 * maxClients + d) in absurd (omega arith), λ (t, c, l). absurd (no-commit d t c));
+    room = filled-length sessionsLength 0;
+    commits-of = λ d b. nothing-in _ (zeros sessionsLength (commitsPlace d)) (no-commit d);
+    drawn = λ d b. nothing-in _ (zeros sessionsLength (drawnPlace d)) (λ w (t, c, r). no-commit d t c);
+    bar = λ d b x. (λ l. let z = zeros sessionsLength (barPlace d) in absurd (omega arith), λ (t, c, l). absurd (no-commit d t c));
   }
 
-  keeps-commits : KeepsCommits s (filled (3 * numbers) 0)
+  keeps-commits : KeepsCommits s (filled commitsLength 0)
   unfolding opening openingStore
   keeps-commits = record {
-    room = filled-length (3 * numbers) 0;
+    room = filled-length commitsLength 0;
     log = λ t p l. absurd (omega arith);
-    before = λ t b. nothing-in _ (zeros (3 * numbers) (numbers + t)) (λ a l. no-link (by-SO l));
-    read = λ t b. nothing-in _ (zeros (3 * numbers) (2 * numbers + t)) (λ w x. no-read w t x);
+    before = λ t b. nothing-in _ (zeros commitsLength (beforePlace t)) (λ a l. no-link (by-SO l));
+    read = λ t b. nothing-in _ (zeros commitsLength (readPlace t)) (λ w x. no-read w t x);
   }
     where
       no-read : (w t : ℕ) → ReadUpTo (history s) w t → ⊥
@@ -141,16 +141,16 @@ module _ (keys : ℕ) where
   no-step (suc n) a b (alone x) = no-link x
   no-step (suc n) a b (followed x r) = no-link x
 
-  keeps-links : KeepsLinks s (filled (2 * numbers + 2 * maxKeys) 0)
+  keeps-links : KeepsLinks s (filled linksLength 0)
   keeps-links = record {
-    room = filled-length (2 * numbers + 2 * maxKeys) 0;
-    steps = λ kind b t l. nothing-in _ (zeros (2 * numbers + 2 * maxKeys) (linkPlace kind t)) (λ a. no-step kind a t);
-    leads = λ kind b k l. nothing-in _ (zeros (2 * numbers + 2 * maxKeys) (leadPlace kind k)) (λ a (r, x, y). no-first kind a r y);
+    room = filled-length linksLength 0;
+    steps = λ kind b t l. nothing-in _ (zeros linksLength (linkPlace kind t)) (λ a. no-step kind a t);
+    leads = λ kind b k l. nothing-in _ (zeros linksLength (leadPlace kind k)) (λ a (r, x, y). no-first kind a r y);
   }
 
   -- "At the start each list is version 0 ..; each client's view is {0} at each key"
   pub keeps-opening : 1 ≤ keys → keys ≤ maxKeys
-      → Keeps (opening keys) (filled (2 * (perKey * maxKeys)) 0) (filled (2 * maxKeys) 1) (filled (maxClients * maxKeys) 1) (filled maxClients 1) (filled (3 * maxClients) 0) (filled (3 * numbers) 0) (filled (2 * numbers + 2 * maxKeys) 0)
+      → Keeps (opening keys) (filled versionsLength 0) (filled keysLength 1) (filled viewsLength 1) (filled seenLength 1) (filled sessionsLength 0) (filled commitsLength 0) (filled linksLength 0)
   keeps-opening some few = record {
     in-versions = keeps-versions;
     in-keys = keeps-keys few;

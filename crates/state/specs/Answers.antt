@@ -2,6 +2,8 @@
 use Prim.Native.Nat.{ℕ}
 use mathlib.Core.Option.{Option, some, none}
 use Rattle.store.specs.Missing.{Place}
+use Rattle.store.specs.Refusal.{Refusal}
+use Rattle.state.specs.declared.Refusal.{Refusal as Refused}
 use Rattle.state.specs.declared.Found.{Found}
 use Rattle.state.specs.declared.Found.the-variants.{At, Nothing}
 use Rattle.state.specs.declared.FoundKey.{FoundKey}
@@ -16,3 +18,7 @@ placeOf Nothing = none
 abbrev pub keyOf : FoundKey → Option ℕ
 keyOf (AtKey k) = some (k .0)
 keyOf NoKey = none
+
+-- the refusal that is answered
+abbrev pub refusalOf : Refused → Refusal
+refusalOf r = record { code = r .code; atRecord = r .record; key = r .key .0; version = r .version .0 }

@@ -5,18 +5,19 @@ use mathlib.Core.Path.{_≡_}
 use mathlib.Core.Logic.{_⊎_, _↔_}
 use mathlib.Core.List.{List}
 use lib.Dec.{T}
-use lib.ListN.{length, getD}
+use lib.ListN.{getD}
 use Rattle.search.specs.Choose.{when}
 use Rattle.sets.specs.Set.{Set, has, below}
 use Rattle.relations.specs.Relation.{ThenMaybe}
 use Rattle.dependencies.specs.History.{Stored, Holds, PrefixStep, SnapshotStep}
 use Rattle.dependencies.specs.History as D
-use Rattle.store.specs.Limits.{maxKeys, maxClients}
+use Rattle.store.specs.Limits.{maxClients}
 use Rattle.store.specs.Store.{Key, CommitNumber, Client, SessionNumber, View, Store, Configuration, count, version, nextNumber, read, write, Commit}
 use Rattle.store.specs.Update.{valueOf}
 use Rattle.store.specs.History.{Wrote, Read, history, held}
 use Rattle.growth.specs.Sessions.{ReadUpTo}
-use Rattle.state.specs.Places.{perKey, numbers, headPlace, readersPlace, fullPlace, writersPlace, viewPlace, commitsPlace, drawnPlace, barPlace, logPlace, beforePlace, readPlace, linkPlace, leadPlace, packed}
+use Rattle.state.specs.Places.{numbers, headPlace, readersPlace, fullPlace, writersPlace, viewPlace, commitsPlace, drawnPlace, barPlace, logPlace, beforePlace, readPlace, linkPlace, leadPlace, packed}
+use Rattle.state.specs.Room.{VersionsRoom, KeysRoom, ViewsRoom, SeenRoom, SessionsRoom, CommitsRoom, LinksRoom, FreshRoom, ValuesRoom}
 
 -- a word is the set of the numbers with P
 abbrev pub IsSet : Set → (ℕ → Type 0) → Type 0
@@ -25,7 +26,7 @@ IsSet m P = (t : ℕ) → T (has m t) ↔ P t
 -- ---- versions and keys
 
 pub record KeepsVersions (s : Store) (versions : List ℕ) : Type 0 where
-  pub room : length versions ≡ 2 * (perKey * maxKeys)
+  pub room : VersionsRoom versions
   pub heads : (k i : ℕ) → i < count s k → getD versions (headPlace k i) 0 ≡ packed (version s k i .value) (version s k i .writer)
   pub readers : (k i : ℕ) → i < count s k → getD versions (readersPlace k i) 0 ≡ version s k i .readers
   pub value-fits : (k i : ℕ) → i < count s k → version s k i .value < 2 ^ 32
@@ -38,7 +39,7 @@ abbrev pub ReadKey : Store → Key → CommitNumber → Type 0
 ReadKey s k t = (i : ℕ) × Read s t k i
 
 pub record KeepsKeys (s : Store) (keys : List ℕ) : Type 0 where
-  pub room : length keys ≡ 2 * maxKeys
+  pub room : KeysRoom keys
   pub full : (k : Key) → k < s .keys → getD keys (fullPlace k) 0 ≡ below (count s k)
   pub writers : (k : Key) → k < s .keys → IsSet (getD keys (writersPlace k) 0) (WroteKey s k)
 
@@ -49,10 +50,10 @@ abbrev pub RowIs : ℕ → List ℕ → Client → View → Type 0
 RowIs keys views d u = (k : Key) → k < keys → getD views (viewPlace d k) 0 ≡ u k
 
 pub record KeepsViews (g : Configuration) (views seen : List ℕ) : Type 0 where
-  pub room : length views ≡ maxClients * maxKeys
+  pub room : ViewsRoom views
   pub rows : (d : Client) → d < maxClients → RowIs (g .store .keys) views d (g .views d)
   -- the commits of which the client's view holds a version
-  pub seen-room : length seen ≡ maxClients
+  pub seen-room : SeenRoom seen
   pub holds : (d : Client) → d < maxClients → IsSet (getD seen d 0) (Holds (history (g .store)) (held (g .views d)))
 
 -- ---- sessions and commits
@@ -62,14 +63,14 @@ abbrev pub CommitOf : Store → Client → CommitNumber → Type 0
 CommitOf s d t = Stored (history s) t × (0 < t) × (s .clientOf t ≡ d)
 
 pub record KeepsSessions (s : Store) (sessions : List ℕ) : Type 0 where
-  pub room : length sessions ≡ 3 * maxClients
+  pub room : SessionsRoom sessions
   pub commits-of : (d : Client) → d < maxClients → IsSet (getD sessions (commitsPlace d) 0) (CommitOf s d)
   pub drawn : (d : Client) → d < maxClients → IsSet (getD sessions (drawnPlace d) 0) (λ w. (t : ℕ) × CommitOf s d t × D.WR (history s) w t)
   -- a session number is below the bar exactly where it is not above every number of the client
   pub bar : (d : Client) → d < maxClients → (x : SessionNumber) → (x < getD sessions (barPlace d) 0) ↔ ((t : ℕ) × CommitOf s d t × (x ≤ s .sessionOf t))
 
 pub record KeepsCommits (s : Store) (commits : List ℕ) : Type 0 where
-  pub room : length commits ≡ 3 * numbers
+  pub room : CommitsRoom commits
   pub log : (t : CommitNumber) → 0 < t → t ≤ s .commits → getD commits (logPlace t) 0 ≡ packed (s .clientOf t) (s .sessionOf t)
   pub before : (t : CommitNumber) → t < numbers → IsSet (getD commits (beforePlace t) 0) (λ a. D.SO (history s) a t)
   -- the writers of what the commit read, or a commit before it in SO read
@@ -87,7 +88,7 @@ Step zero s = PrefixStep (history s)
 Step (suc n) s = SnapshotStep (history s)
 
 pub record KeepsLinks (s : Store) (links : List ℕ) : Type 0 where
-  pub room : length links ≡ 2 * numbers + 2 * maxKeys
+  pub room : LinksRoom links
   pub steps : (kind : ℕ) → kind < 2 → (t : CommitNumber) → t < numbers → IsSet (getD links (linkPlace kind t) 0) (λ a. Step kind s a t)
   pub leads : (kind : ℕ) → kind < 2 → (k : Key) → k < s .keys
       → IsSet (getD links (leadPlace kind k) 0) (λ a. (r : ℕ) × ReadKey s k r × FirstLink kind s a r)
@@ -96,12 +97,12 @@ pub record KeepsLinks (s : Store) (links : List ℕ) : Type 0 where
 
 -- the masks of a record
 pub record KeepsMasks (keys : ℕ) (u : View) (fresh : List ℕ) : Type 0 where
-  pub room : length fresh ≡ maxKeys
+  pub room : FreshRoom fresh
   pub masks : (k : Key) → k < keys → getD fresh k 0 ≡ u k
 
 -- the operations of a commit, by rank: twice the key for a read, one more for a write
 pub record KeepsOperations (c : Commit) (ranks : Set) (values : List ℕ) : Type 0 where
-  pub room : length values ≡ 2 * maxKeys
+  pub room : ValuesRoom values
   pub reads : (k : Key) → valueOf read (c .operations) k ≡ when (has ranks (2 * k)) (getD values (2 * k) 0)
   pub writes : (k : Key) → valueOf write (c .operations) k ≡ when (has ranks (2 * k + 1)) (getD values (2 * k + 1) 0)
   pub value-fits : (r : ℕ) → getD values r 0 < 2 ^ 32

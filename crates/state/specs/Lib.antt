@@ -1,4 +1,5 @@
 pub mod Places
+pub mod Room
 pub mod Keeps
 pub mod Answers
 pub mod Accesses

@@ -1,15 +1,9 @@
--- Where things stand in the arrays of the judge. An array holds several tables of equal rows, one after the other. Assumes nothing.
+-- Where things stand in the arrays of the judge, and how long each array is. An array holds several tables of equal rows, one after the other;
+-- whatever follows from a limit is said here, and by the constants of src/lib.rt that stand for the same places. Assumes nothing.
 use Prim.Native.Nat.{ℕ, _+_, _*_, _/_, _%_, _^_}
 use Rattle.store.specs.Limits.{maxKeys, maxClients}
+pub use Rattle.store.specs.Limits.{perKey, numbers}
 use Rattle.store.specs.Store.{Key, VersionNumber, CommitNumber, Client}
-
--- a key can have 64 versions: the opening one, and one by each of 63 commits
-abbrev pub perKey : ℕ
-perKey = 64
-
--- commit numbers are below 64
-abbrev pub numbers : ℕ
-numbers = 64
 
 -- versions: the heads, then the readers
 abbrev pub headPlace : Key → VersionNumber → ℕ
@@ -18,6 +12,9 @@ headPlace k i = perKey * k + i
 abbrev pub readersPlace : Key → VersionNumber → ℕ
 readersPlace k i = perKey * maxKeys + headPlace k i
 
+abbrev pub versionsLength : ℕ
+versionsLength = 2 * (perKey * maxKeys)
+
 -- keys: the full masks, then the sets of writers
 abbrev pub fullPlace : Key → ℕ
 fullPlace k = k
@@ -25,9 +22,19 @@ fullPlace k = k
 abbrev pub writersPlace : Key → ℕ
 writersPlace k = maxKeys + k
 
+abbrev pub keysLength : ℕ
+keysLength = 2 * maxKeys
+
 -- views: a row for each client
 abbrev pub viewPlace : Client → Key → ℕ
 viewPlace d k = maxKeys * d + k
+
+abbrev pub viewsLength : ℕ
+viewsLength = maxClients * maxKeys
+
+-- seen: a set for each client
+abbrev pub seenLength : ℕ
+seenLength = maxClients
 
 -- sessions: the commits of each client, the writers that they read from, and the least session number that is free
 abbrev pub commitsPlace : Client → ℕ
@@ -39,6 +46,9 @@ drawnPlace d = maxClients + d
 abbrev pub barPlace : Client → ℕ
 barPlace d = 2 * maxClients + d
 
+abbrev pub sessionsLength : ℕ
+sessionsLength = 3 * maxClients
+
 -- commits: the log, the commits before each in SO, and the writers that each and those read from
 abbrev pub logPlace : CommitNumber → ℕ
 logPlace t = t
@@ -49,6 +59,9 @@ beforePlace t = numbers + t
 abbrev pub readPlace : CommitNumber → ℕ
 readPlace t = 2 * numbers + t
 
+abbrev pub commitsLength : ℕ
+commitsLength = 3 * numbers
+
 -- links: for clause 6 and then for clause 7, the commits with a link to each; then for each key what its readers bring along
 abbrev pub linkPlace : ℕ → CommitNumber → ℕ
 linkPlace kind t = numbers * kind + t
@@ -56,10 +69,20 @@ linkPlace kind t = numbers * kind + t
 abbrev pub leadPlace : ℕ → Key → ℕ
 leadPlace kind k = 2 * numbers + (maxKeys * kind + k)
 
+abbrev pub linksLength : ℕ
+linksLength = 2 * numbers + 2 * maxKeys
+
+-- the record at hand: the masks of its view, and the values of its operations by rank, two for each key
+abbrev pub freshLength : ℕ
+freshLength = maxKeys
+
+abbrev pub valuesLength : ℕ
+valuesLength = 2 * maxKeys
+
 -- two numbers in one word: the low half, and the high half
 abbrev pub packed : ℕ → ℕ → ℕ
 packed low high = low + 2 ^ 32 * high
 
--- the writer in the head of a version: the high half, a commit number, which is below 64
+-- the writer in the head of a version: the high half, a commit number
 unfoldable pub writerIn : ℕ → ℕ
-writerIn head = head / 2 ^ 32 % 64
+writerIn head = head / 2 ^ 32 % numbers

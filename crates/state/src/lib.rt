@@ -1,12 +1,17 @@
-// The numbers of the store, kept from being swapped by accident, answers that name a key or a version, and what the loops of several crates
-// share: the keys to go over, and sets gathered from rows. The arrays in which the judge keeps a configuration are described in
-// specs/Places.antt (where things stand) and specs/Keeps.antt (what they say).
+// The numbers of the store, kept from being swapped by accident, answers that name a key or a version, where the tables of the arrays start,
+// and what the loops of several crates share: the keys to go over, and sets gathered from rows. The arrays in which the judge keeps a
+// configuration are described in specs/Places.antt (where things stand), specs/Room.antt (how long they are) and specs/Keeps.antt (what they
+// say).
+use store::Store;
 ghost use mathlib.Core.Path.{_≡_};
 ghost use Prim.Native.Nat.{_+_, _≤_, _<_};
 ghost use lib.ListN.{length};
 ghost use Rattle.sets.specs.Set.{highest};
-ghost use Rattle.state.specs.Places.{writerIn};
+ghost use Rattle.store.specs.Limits.{maxKeys};
+ghost use Rattle.state.specs.Places.{perKey, numbers, writerIn};
+ghost use Rattle.store.specs.Refusal.{refuse, refuseKey, refusePlace};
 ghost use Rattle.state.specs.Accesses.{Left};
+ghost use Rattle.state.specs.Answers.{refusalOf};
 ghost use Rattle.state.specs.Keeps.{IsSet};
 ghost use Rattle.state.specs.Rows.{InRows};
 
@@ -18,6 +23,90 @@ pub struct VersionNumber(pub usize);
 
 // The number of a commit; the opening transaction is 0.
 pub struct CommitNumber(pub usize);
+
+// ---- where the tables start, in the order of specs/Places.antt; what is not named starts at 0
+
+// versions: a row for each key, of heads; then as many rows of readers.
+pub const PER_KEY: usize = Store::VERSIONS;
+
+pub const READERS: usize = PER_KEY * Store::KEYS;
+
+// keys: the sets of writers, after the full masks.
+pub const WRITERS: usize = Store::KEYS;
+
+// views: a row for each client.
+pub const PER_CLIENT: usize = Store::KEYS;
+
+// sessions: the writers that the commits of each client read from, and the least session number that is free, after its commits.
+pub const DRAWN: usize = Store::CLIENTS;
+
+pub const BAR: usize = 2 * Store::CLIENTS;
+
+// commits: the commits before each in its session, and the writers that it and these read from, after the log.
+pub const BEFORE: usize = Store::NUMBERS;
+
+pub const READ_FROM: usize = 2 * Store::NUMBERS;
+
+// links: the rows of clause 7, after those of clause 6; then what the readers of each key bring along, for clause 6 and for clause 7.
+pub const SNAPSHOT_LINKS: usize = Store::NUMBERS;
+
+pub const LEADS: usize = 2 * Store::NUMBERS;
+
+pub const SNAPSHOT_LEADS: usize = LEADS + Store::KEYS;
+
+// The record at hand: so many masks, and so many values.
+pub const FRESH: usize = Store::KEYS;
+
+pub const VALUES: usize = 2 * Store::KEYS;
+
+// ---- answers
+
+// A refusal: its number, and the record, key and version that it names (0 where not named).
+pub struct Refusal {
+    pub code: usize,
+    pub record: usize,
+    pub key: Key,
+    pub version: VersionNumber,
+}
+
+// Refusals are made here alone, so that what a refusal has more one day is said in one place.
+impl Refusal {
+    // One that names its record alone.
+    pub fn of_record(code: usize, number: usize) -> Refusal
+        ensures { λ r. ⌜ refusalOf r ≡ refuse code number ⌝ }
+    {
+        Refusal {
+            code,
+            record: number,
+            key: Key(0),
+            version: VersionNumber(0),
+        }
+    }
+
+    // One that names a key.
+    pub fn of_key(code: usize, number: usize, key: Key) -> Refusal
+        ensures { λ r. ⌜ refusalOf r ≡ refuseKey code number (key .0) ⌝ }
+    {
+        Refusal {
+            code,
+            record: number,
+            key,
+            version: VersionNumber(0),
+        }
+    }
+
+    // One that names a version of a key.
+    pub fn of_version(code: usize, number: usize, key: Key, version: VersionNumber) -> Refusal
+        ensures { λ r. ⌜ refusalOf r ≡ refusePlace code number (record { key = key .0; version = version .0 }) ⌝ }
+    {
+        Refusal {
+            code,
+            record: number,
+            key,
+            version,
+        }
+    }
+}
 
 // The first version that a search came upon.
 pub enum Found {
@@ -31,24 +120,30 @@ pub enum FoundKey {
     NoKey,
 }
 
+// ---- what words say
+
+const NUMBERS: u64 = Store::NUMBERS as u64;
+
 // The writer in the head of a version.
-pub fn writer_of(head: u64) -> usize
-    ensures { λ r. ⌜ (r ≡ writerIn head) × (r < 64) ⌝ }
+pub fn writer_of(head: u64) -> CommitNumber
+    ensures { λ r. ⌜ (r .0 ≡ writerIn head) × (r .0 < numbers) ⌝ }
 {
-    ((head >> 32) % 64) as usize
+    CommitNumber(((head >> 32) % NUMBERS) as usize)
 }
 
 // The number of the newest version in a mask, and 0 where it holds none.
-pub fn newest(mask: u64) -> usize
-    ensures { λ r. ⌜ (r ≡ highest mask) × (r < 64) ⌝ }
+pub fn newest(mask: u64) -> VersionNumber
+    ensures { λ r. ⌜ (r .0 ≡ highest mask) × (r .0 < perKey) ⌝ }
 {
-    sets::highest(mask | 1)
+    VersionNumber(sets::highest(mask | 1))
 }
+
+// ---- what loops share
 
 // The keys below n that have an operation of this access (0 for reads, 1 for writes), as the set of twice their numbers. A loop over it
 // costs what there is to do, where a loop over all keys would ask of each.
 pub fn keys_with(ranks: u64, access: usize, n: usize) -> u64
-    requires { ⌜ (access < 2) × (n ≤ 16) ⌝ }
+    requires { ⌜ (access < 2) × (n ≤ maxKeys) ⌝ }
     ensures { λ r. ⌜ Left ranks access n 0 r ⌝ }
 {
     (ranks >> access) & 0x5555_5555_5555_5555 & sets::below(2 * n)
@@ -56,7 +151,7 @@ pub fn keys_with(ranks: u64, access: usize, n: usize) -> u64
 
 // All that is in the rows of the members of a set; the row of number t stands at from + t.
 pub fn gather(rows: &[u64], from: usize, set: u64) -> u64
-    requires { ⌜ from + 64 ≤ length (now rows) ⌝ }
+    requires { ⌜ from + numbers ≤ length (now rows) ⌝ }
     ensures { λ r. ⌜ IsSet r (InRows (now (rows .entry)) from set) ⌝ }
 {
     let mut all = 0u64;
@@ -77,7 +172,7 @@ pub struct Gathered {
 
 // All that is in the rows of the members of a set, of two parts of an array at once; the rows of number t stand at one + t and two + t.
 pub fn gather_two(rows: &[u64], one: usize, two: usize, set: u64) -> Gathered
-    requires { ⌜ (one + 64 ≤ length (now rows)) × (two + 64 ≤ length (now rows)) ⌝ }
+    requires { ⌜ (one + numbers ≤ length (now rows)) × (two + numbers ≤ length (now rows)) ⌝ }
     ensures { λ r. ⌜ IsSet (r .first) (InRows (now (rows .entry)) one set) × IsSet (r .second) (InRows (now (rows .entry)) two set) ⌝ }
 {
     let mut first = 0u64;

@@ -1,5 +1,5 @@
 -- "The image" (01), byte for byte. Assumes nothing.
-use Prim.Native.Nat.{ℕ, suc, _+_, _*_}
+use Prim.Native.Nat.{ℕ, suc, _+_, _*_, _≤_, _<_}
 use mathlib.Core.List.{List, [], _∷_, _++_}
 use lib.ListN.{length}
 use Rattle.endian.specs.Endian.{leBytes, pieces}
@@ -24,3 +24,7 @@ imageBody s = pieces (s .commits) (λ i. commitBytes s (suc i)) ++ pieces (s .ke
 -- "u32 length, keys u8, commits u8, two zeros", and the rest
 unfoldable pub image : Store → List ℕ
 image s = leBytes 4 (8 + length (imageBody s)) ++ (leBytes 1 (s .keys) ++ (leBytes 1 (s .commits) ++ (leBytes 2 0 ++ imageBody s)))
+
+-- "client u8": the client of each commit has room in a byte
+abbrev pub ClientsFit : Store → Type 0
+ClientsFit s = (t : CommitNumber) → 0 < t → t ≤ s .commits → s .clientOf t < 256

@@ -4,7 +4,7 @@ ghost use mathlib.Core.Path.{_≡_};
 ghost use mathlib.Core.List.{[], _∷_};
 ghost use Prim.Native.Nat.{_+_, _*_};
 ghost use lib.ListN.{replicate};
-ghost use Rattle.store.specs.Limits.{maxKeys, maxClients, maxCommits, minBytes, maxBytes};
+ghost use Rattle.store.specs.Limits.{maxKeys, maxClients, maxCommits, numbers, perKey, minBytes, maxBytes, maxImage};
 
 pub struct Store {
     // Of each version its value and writer; then of each its readers.
@@ -34,30 +34,36 @@ impl Store {
 
     pub const HEADER: usize = 12;
     // A key has at most the opening version and one by each commit; commit numbers begin with the opening transaction's, 0.
-    pub const VERSIONS: usize = 64;
+    pub const VERSIONS: usize = Store::COMMITS + 1;
 
-    pub const NUMBERS: usize = 64;
+    pub const NUMBERS: usize = Store::COMMITS + 1;
+    // An image is at most so long.
+    pub const IMAGE: usize = 8 + 8 * Store::COMMITS + Store::KEYS * (4 + 16 * Store::VERSIONS);
 
-    // The constants are the limits of specs/Limits.antt.
-    pub fn limits() -> [usize; 5]
-        ensures { λ r. ⌜ r ≡ maxKeys ∷ maxClients ∷ maxCommits ∷ maxBytes ∷ minBytes ∷ [] ⌝ }
+    // The constants are the limits of specs/Limits.antt. Nothing calls this: it is here for its promise, which holds no longer where a limit
+    // is changed in one of the two places alone.
+    pub fn limits() -> [usize; 8]
+        ensures { λ r. ⌜ r ≡ maxKeys ∷ maxClients ∷ maxCommits ∷ perKey ∷ numbers ∷ maxBytes ∷ minBytes ∷ maxImage ∷ [] ⌝ }
     {
         [
             Store::KEYS,
             Store::CLIENTS,
             Store::COMMITS,
+            Store::VERSIONS,
+            Store::NUMBERS,
             Store::BYTES,
             Store::HEADER,
+            Store::IMAGE,
         ]
     }
 
     // "At the start each list is version 0: value 0, writer the opening transaction (number 0), no readers; each client's view is {0}
     // at each key."
     pub fn opening() -> Store
-        ensures versions { λ r. ⌜ r .versions ≡ replicate (2 * (64 * maxKeys)) 0 ⌝ }
+        ensures versions { λ r. ⌜ r .versions ≡ replicate (2 * (perKey * maxKeys)) 0 ⌝ }
         ensures keys { λ r. ⌜ r .keys ≡ replicate (2 * maxKeys) 1 ⌝ }
         ensures views { λ r. ⌜ (r .views ≡ replicate (maxClients * maxKeys) 1) × (r .seen ≡ replicate maxClients 1) ⌝ }
-        ensures commits { λ r. ⌜ (r .sessions ≡ replicate (3 * maxClients) 0) × (r .commits ≡ replicate (3 * 64) 0) × (r .links ≡ replicate (2 * 64 + 2 * maxKeys) 0) ⌝ }
+        ensures commits { λ r. ⌜ (r .sessions ≡ replicate (3 * maxClients) 0) × (r .commits ≡ replicate (3 * numbers) 0) × (r .links ≡ replicate (2 * numbers + 2 * maxKeys) 0) ⌝ }
     {
         Store {
             versions: [0; 2 * Store::VERSIONS * Store::KEYS],

@@ -17,7 +17,7 @@ use Rattle.store.specs.View.{FitsView}
 use Rattle.store.proofs.Run.{commitsIn}
 use Rattle.trace.specs.Result.{Result, refused, taken, onTaken}
 use Rattle.trace.specs.Entry.{Entry, listedOr, over, event, eventsOf}
-use Rattle.trace.specs.Format.{Header, Trace, viewAt, accessOf, operationAt, operationsAt, rankAt, operationFits, operationsFit, Record, misshapen, whole, shiftAt, commitOf, commitAt, recordAt, commitsWith, onRecord, entriesFrom, headerAt, withinLimits, traceOf, decode}
+use Rattle.trace.specs.Format.{Header, Trace, viewAt, accessOf, operationAt, operationsAt, rankAt, operationFits, operationsFit, Reading, misshapen, whole, shiftAt, commitOf, commitAt, recordAt, commitsWith, onRecord, entriesFrom, headerAt, withinLimits, traceOf, decode}
 use Rattle.trace.specs.Encode.{accessNumber}
 use Rattle.trace.proofs.Tests.{operationFits-is, withinLimits-is}
 use Rattle.trace.specs.WellFormed.{rank, FitsOperation, Rise, ViewsFit, FitsEntry}
@@ -41,7 +41,7 @@ onTaken-ind Q P (taken a) f q g = g a q
 -- ---- what holds of what is read
 
 -- of a record: it fits, and the next one starts within the file
-abbrev pub ReadAt : List ℕ → Header → Record → Type 0
+abbrev pub ReadAt : List ℕ → Header → Reading → Type 0
 ReadAt s h (misshapen code) = Unit {0}
 ReadAt s h (whole r next) = FitsEntry (h .keys) (h .clients) r × (next ≤ length s)
 
@@ -170,9 +170,9 @@ module _ (s : List ℕ) (bytes : Bytes s) where
   -- ---- all records
 
   -- going on after a record
-  on-record-read : {A : Type 0} (P : A → Type 0) (h : Header) (n commits : ℕ) (f : Entry → ℕ → ℕ → Result A) (r : Record) → ReadAt s h r
+  on-record-read : {A : Type 0} (P : A → Type 0) (h : Header) (n commits : ℕ) (f : Entry → ℕ → ℕ → Result A) (x : Reading) → ReadAt s h x
       → ((r : Entry) (next : ℕ) → FitsEntry (h .keys) (h .clients) r → commitsWith r commits ≤ maxCommits → IfTaken P (f r next (commitsWith r commits)))
-      → IfTaken P (onRecord r n commits f)
+      → IfTaken P (onRecord x n commits f)
   unfolding onRecord
   on-record-read P h n commits f (misshapen code) read rest = tt
   on-record-read P h n commits f (whole r next) read rest = need-ind (IfTaken P) _ _ _ tt (λ few. rest r next (read .0) (leb→le _ _ few))

@@ -1,13 +1,14 @@
 // The form of a whole file: codes 1 to 8 in the order of "Bench codes" (01), "1 and 2; then form over all records in turn; 5".
 ghost use mathlib.Core.Path.{_≡_};
-ghost use Prim.Native.Nat.{_≤_, _<_};
+ghost use mathlib.Core.List.{List};
+ghost use Prim.Native.Nat.{ℕ, _≤_, _<_};
 ghost use lib.ListN.{length};
 ghost use Rattle.store.specs.Limits.{maxKeys, minBytes};
 ghost use Rattle.trace.specs.Format.{withinLimits};
-ghost use Rattle.trace.specs.Meaning.{stepOf, stopCode, headerOf, AllRecordsSay, FormSays};
+ghost use Rattle.trace.specs.Meaning.{goesOn, PassFits, passAfter, formAfter, headerOf, AllRecordsSay, FormSays};
 use crate::reader;
 use crate::records;
-use crate::records::Record;
+use crate::records::Reading;
 
 // "keys u8, clients u8, count u16 of records that follow"
 pub struct Header {
@@ -22,85 +23,85 @@ pub enum Form {
     Misshapen { code: usize, record: usize },
 }
 
-// Where the record after this one starts and how many commits there are up to it, or the code with which the file is refused.
-pub enum Step {
-    Next { at: usize, commits: usize },
-    Stop(usize),
+// A pass over the records: the number of the one that is next and how many commits there are before it, or where and with which code
+// the file is refused.
+pub enum Pass {
+    Going { index: usize, commits: usize },
+    Stopped { code: usize, record: usize },
 }
 
-// What a record leads to where there were so many commits before it; code 8: "a 64th commit".
-fn step_of(r: Record, commits: usize) -> Step
-    ensures { λ t. ⌜ t ≡ stepOf r commits ⌝ }
+// A record is left to read.
+fn goes_on(p: Pass, count: usize) -> bool
+    ensures { λ r. ⌜ r ≡ goesOn p count ⌝ }
 {
-    match r {
-        Record::Shift {
-            client: _,
-            masks: _,
-            next,
-        } => Step::Next { at: next, commits },
-        Record::Commit {
-            client: _,
-            count: _,
-            session: _,
-            operations: _,
-            masks: _,
-            next,
+    let Pass::Going { index, commits: _ } = p else {
+        return false;
+    };
+    index <= count
+}
+
+// What a record leads to; code 8: "a 64th commit".
+fn after(p: Pass, x: Reading) -> Pass
+    requires { ⌜ PassFits p ⌝ }
+    ensures { λ q. ⌜ ((s : List ℕ) (keys : ℕ) → q ≡ passAfter s keys p x) ⌝ }
+{
+    let Pass::Going { index, commits } = p else {
+        return p;
+    };
+    let Reading::Whole { record, next: _ } = x else {
+        return Pass::Stopped {
+            code: records::refusal(x),
+            record: index,
+        };
+    };
+    let count = records::commits_with(record, commits);
+    if store::Store::COMMITS < count {
+        return Pass::Stopped {
+            code: 8,
+            record: index,
+        };
+    }
+    Pass::Going {
+        index: index + 1,
+        commits: count,
+    }
+}
+
+// The form of the file after the pass, which ended at a place of it; code 5: "bytes left after the counted records".
+fn form_after(h: Header, p: Pass, at: usize, len: usize) -> Form
+    ensures { λ r. ⌜ r ≡ formAfter h p at len ⌝ }
+{
+    match p {
+        Pass::Stopped { code, record } => Form::Misshapen { code, record },
+        Pass::Going {
+            index: _,
+            commits: _,
         } => {
-            if store::Store::COMMITS <= commits {
-                return Step::Stop(8);
+            if at != len {
+                return Form::Misshapen {
+                    code: 5,
+                    record: h.records,
+                };
             }
-            Step::Next {
-                at: next,
-                commits: commits + 1,
-            }
+            Form::Whole(h)
         }
-        Record::Refused(w) => Step::Stop(records::number(w)),
     }
 }
 
-// The code of a refusal, and 0 where there is none.
-fn stop_code(t: Step) -> usize
-    ensures { λ r. ⌜ r ≡ stopCode t ⌝ }
-{
-    match t {
-        Step::Next { at: _, commits: _ } => 0,
-        Step::Stop(code) => code,
-    }
-}
-
-// "form over all records in turn", each read whole or the file refused there, then code 5: "bytes left after the counted records".
+// "form over all records in turn", by a reader that goes from the first to the last, each read whole or the file refused there.
 fn records_form(s: &[u8], h: Header) -> Form
     requires { ⌜ (minBytes ≤ length (now s)) × (h .keys ≤ maxKeys) × (h .records < 65536) ⌝ }
     ensures { λ r. ⌜ AllRecordsSay (now (s .entry)) h r ⌝ }
 {
-    let mut at = store::Store::HEADER;
-    let mut index: usize = 1;
-    let mut commits: usize = 0;
-    let mut left = h.records;
-    while 0 < left {
-        let step = step_of(reader::record_from(s, at, h.keys, h.clients), commits);
-        let Step::Next {
-            at: next,
-            commits: count,
-        } = step
-        else {
-            return Form::Misshapen {
-                code: stop_code(step),
-                record: index,
-            };
-        };
-        at = next;
-        commits = count;
-        index = index + 1;
-        left = left - 1;
+    let mut r = reader::new(s, store::Store::HEADER);
+    let mut pass = Pass::Going {
+        index: 1,
+        commits: 0,
+    };
+    while goes_on(pass, h.records) {
+        pass = after(pass, reader::next(&mut r, h.keys, h.clients));
     }
-    if at != s.len() {
-        return Form::Misshapen {
-            code: 5,
-            record: h.records,
-        };
-    }
-    Form::Whole(h)
+    form_after(h, pass, r.at, s.len())
 }
 
 // "Keys 1 to 16, clients 1 to 16"

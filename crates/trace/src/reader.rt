@@ -4,9 +4,9 @@ ghost use mathlib.Core.Path.{_≡_};
 ghost use Prim.Native.Nat.{_≤_};
 ghost use lib.ListN.{length};
 ghost use Rattle.store.specs.Limits.{maxKeys};
-ghost use Rattle.trace.specs.Meaning.{RecordSays};
+ghost use Rattle.trace.specs.Meaning.{placeAfter, RecordSays};
 use crate::records;
-use crate::records::Record;
+use crate::records::Reading;
 
 pub struct Reader<'a> {
     pub src: &'a [u8],
@@ -20,18 +20,12 @@ pub fn new<'a>(src: &'a [u8], at: usize) -> Reader<'a>
     Reader { src, at }
 }
 
-// The record at the reader's place.
-pub fn next<'a>(r: Reader<'a>, keys: usize, clients: usize) -> Record
-    requires { ⌜ (r .at ≤ length (now (r .src))) × (keys ≤ maxKeys) ⌝ }
-    ensures { λ x. ⌜ RecordSays (now (r .entry .src)) (r .entry .at) keys clients x ⌝ }
+// The record at the reader's place. Where it was read whole the reader stands at the next one, and where not it stays.
+pub fn next<'s, 'a>(r: &'s mut Reader<'a>, keys: usize, clients: usize) -> Reading
+    requires { ⌜ (now r .at ≤ length (now (now r .src))) × (keys ≤ maxKeys) ⌝ }
+    ensures { λ x. ⌜ RecordSays (now (now (r .entry) .src)) (now (r .entry) .at) keys clients x × (now (r .exit) ≡ record { src = now (r .entry) .src; at = placeAfter x (now (r .entry) .at) }) ⌝ }
 {
-    records::record_at(r.src, r.at, keys, clients)
-}
-
-// The record at a place of a file, by a reader made there. Where it ends the next one starts.
-pub fn record_from(s: &[u8], at: usize, keys: usize, clients: usize) -> Record
-    requires { ⌜ (at ≤ length (now s)) × (keys ≤ maxKeys) ⌝ }
-    ensures { λ x. ⌜ RecordSays (now (s .entry)) at keys clients x ⌝ }
-{
-    next(new(s, at), keys, clients)
+    let x = records::record_at(r.src, r.at, keys, clients);
+    r.at = records::place_after(x, r.at);
+    x
 }

@@ -1,12 +1,13 @@
 // "A record is either read whole or the file is refused there" (01, The trace file). Within a record the checks come in the order
 // of "Bench codes": "4 bytes left, kind 4, rest of 3, then 6, 7".
 ghost use mathlib.Core.Path.{_≡_};
+ghost use mathlib.Core.List.{List};
 ghost use Prim.Native.Nat.{ℕ, _+_, _*_, _≤_, _<_};
 ghost use lib.ListN.{length};
 ghost use Rattle.search.specs.Choose.{choose};
-ghost use Rattle.store.specs.Limits.{maxKeys};
-ghost use Rattle.trace.specs.Format.{rankAt, operationFits, operationsFit, shiftAt, commitOf, commitAt};
-ghost use Rattle.trace.specs.Meaning.{whyNumber, Answers, RecordSays, InFormAt};
+ghost use Rattle.store.specs.Limits.{maxKeys, maxCommits};
+ghost use Rattle.trace.specs.Format.{rankAt, operationFits, operationsFit, shiftAt, commitOf, commitAt, commitsWith};
+ghost use Rattle.trace.specs.Meaning.{whyNumber, refusalNumber, placeAfter, entryOf, Answers, RecordSays, InFormAt};
 
 // Why a record is refused; whyNumber gives the code.
 pub enum Why {
@@ -16,12 +17,11 @@ pub enum Why {
     Body,
 }
 
-// A record that was read whole, or why it was not. `masks`, `operations` and `next` are places, counted from the file's start.
+// What stands in a record; `masks` and `operations` are places, counted from the file's start.
 pub enum Record {
     Shift {
         client: usize,
         masks: usize,
-        next: usize,
     },
     Commit {
         client: usize,
@@ -29,9 +29,19 @@ pub enum Record {
         session: u32,
         operations: usize,
         masks: usize,
-        next: usize,
     },
+}
+
+// "A record is either read whole or the file is refused there": the record and the place where the next one starts, or why not.
+pub enum Reading {
+    Whole { record: Record, next: usize },
     Refused(Why),
+}
+
+// A record that is known to be in form, and the place where the next one starts.
+pub struct Known {
+    pub record: Record,
+    pub next: usize,
 }
 
 // The code of a refusal.
@@ -43,6 +53,46 @@ pub fn number(w: Why) -> usize
         Why::Kind => 4,
         Why::Client => 6,
         Why::Body => 7,
+    }
+}
+
+// The code of a refusal, and 0 where there is none.
+pub fn refusal(r: Reading) -> usize
+    ensures { λ x. ⌜ x ≡ refusalNumber r ⌝ }
+{
+    match r {
+        Reading::Whole { record: _, next: _ } => 0,
+        Reading::Refused(w) => number(w),
+    }
+}
+
+// Where the record after this one starts. A record that is refused has none after it: its own place is answered.
+pub fn place_after(r: Reading, at: usize) -> usize
+    ensures { λ n. ⌜ n ≡ placeAfter r at ⌝ }
+{
+    let Reading::Whole { record: _, next } = r else {
+        return at;
+    };
+    next
+}
+
+// How many commits there are up to a record and with it.
+pub fn commits_with(r: Record, commits: usize) -> usize
+    requires { ⌜ commits ≤ maxCommits ⌝ }
+    ensures { λ x. ⌜ ((s : List ℕ) (keys : ℕ) → x ≡ commitsWith (entryOf s keys r) commits) ⌝ }
+{
+    match r {
+        Record::Shift {
+            client: _,
+            masks: _,
+        } => commits,
+        Record::Commit {
+            client: _,
+            count: _,
+            session: _,
+            operations: _,
+            masks: _,
+        } => commits + 1,
     }
 }
 
@@ -92,79 +142,85 @@ fn operations_fit(s: &[u8], start: usize, keys: usize, m: usize) -> bool
 }
 
 // "Kind 2, view shift, length 6 + 8K for K keys: client u8, zero u8, K view masks u64."
-fn shift_at(s: &[u8], at: usize, keys: usize, clients: usize) -> Record
+fn shift_at(s: &[u8], at: usize, keys: usize, clients: usize) -> Reading
     requires { ⌜ (at + 4 ≤ length (now s)) × (keys ≤ maxKeys) ⌝ }
     ensures { λ r. ⌜ Answers (now (s .entry)) keys clients (λ h. shiftAt (now (s .entry)) h at) r ⌝ }
 {
     let size = 6 + 8 * keys;
     if endian::u16_at(s, at) as usize != size {
-        return Record::Refused(Why::Length);
+        return Reading::Refused(Why::Length);
     }
     if s.len() < at + size {
-        return Record::Refused(Why::Length);
+        return Reading::Refused(Why::Length);
     }
     let client = endian::byte_at(s, at + 4);
     if clients <= client {
-        return Record::Refused(Why::Client);
+        return Reading::Refused(Why::Client);
     }
     if endian::byte_at(s, at + 5) != 0 {
-        return Record::Refused(Why::Body);
+        return Reading::Refused(Why::Body);
     }
-    Record::Shift {
+    let record = Record::Shift {
         client,
         masks: at + 6,
+    };
+    Reading::Whole {
+        record,
         next: at + size,
     }
 }
 
 // A commit of m operations: what is tested of it once m is read.
-fn commit_of(s: &[u8], at: usize, keys: usize, clients: usize, m: usize) -> Record
+fn commit_of(s: &[u8], at: usize, keys: usize, clients: usize, m: usize) -> Reading
     requires { ⌜ (at + 6 ≤ length (now s)) × (keys ≤ maxKeys) × (m < 256) ⌝ }
     ensures { λ r. ⌜ Answers (now (s .entry)) keys clients (λ h. commitOf (now (s .entry)) h at m) r ⌝ }
 {
     let size = 10 + 8 * m + 8 * keys;
     if endian::u16_at(s, at) as usize != size {
-        return Record::Refused(Why::Length);
+        return Reading::Refused(Why::Length);
     }
     if s.len() < at + size {
-        return Record::Refused(Why::Length);
+        return Reading::Refused(Why::Length);
     }
     let client = endian::byte_at(s, at + 4);
     if clients <= client {
-        return Record::Refused(Why::Client);
+        return Reading::Refused(Why::Client);
     }
     if operations_fit(s, at + 10, keys, m) {
-        Record::Commit {
+        let record = Record::Commit {
             client,
             count: m,
             session: endian::u32_at(s, at + 6),
             operations: at + 10,
             masks: at + (10 + 8 * m),
+        };
+        Reading::Whole {
+            record,
             next: at + size,
         }
     } else {
-        Record::Refused(Why::Body)
+        Reading::Refused(Why::Body)
     }
 }
 
 // "Kind 3, commit, length 10 + 8m + 8K: client u8, m u8, session number u32, m operations, K masks of the view after the commit."
-fn commit_at(s: &[u8], at: usize, keys: usize, clients: usize) -> Record
+fn commit_at(s: &[u8], at: usize, keys: usize, clients: usize) -> Reading
     requires { ⌜ (at + 4 ≤ length (now s)) × (keys ≤ maxKeys) ⌝ }
     ensures { λ r. ⌜ Answers (now (s .entry)) keys clients (λ h. commitAt (now (s .entry)) h at) r ⌝ }
 {
     if s.len() <= at + 5 {
-        return Record::Refused(Why::Length);
+        return Reading::Refused(Why::Length);
     }
     commit_of(s, at, keys, clients, endian::byte_at(s, at + 5))
 }
 
 // The record at a place of the file.
-pub fn record_at(s: &[u8], at: usize, keys: usize, clients: usize) -> Record
+pub fn record_at(s: &[u8], at: usize, keys: usize, clients: usize) -> Reading
     requires { ⌜ (at ≤ length (now s)) × (keys ≤ maxKeys) ⌝ }
     ensures { λ r. ⌜ RecordSays (now (s .entry)) at keys clients r ⌝ }
 {
     if s.len() < at + 4 {
-        return Record::Refused(Why::Length);
+        return Reading::Refused(Why::Length);
     }
     let kind = endian::u16_at(s, at + 2);
     if kind == 2 {
@@ -173,30 +229,36 @@ pub fn record_at(s: &[u8], at: usize, keys: usize, clients: usize) -> Record
     if kind == 3 {
         return commit_at(s, at, keys, clients);
     }
-    Record::Refused(Why::Kind)
+    Reading::Refused(Why::Kind)
 }
 
 // A record that is known to be in form, read again without a test.
-pub fn known_at(s: &[u8], at: usize, keys: usize) -> Record
+pub fn known_at(s: &[u8], at: usize, keys: usize) -> Known
     requires { ⌜ ((clients : ℕ) × InFormAt (now s) at keys clients) ⌝ }
-    ensures { λ r. ⌜ ((clients : ℕ) → InFormAt (now (s .entry)) at keys clients → RecordSays (now (s .entry)) at keys clients r) ⌝ }
+    ensures { λ k. ⌜ ((clients : ℕ) → InFormAt (now (s .entry)) at keys clients → RecordSays (now (s .entry)) at keys clients (Reading.Whole (k .record) (k .next))) ⌝ }
 {
     let client = endian::byte_at(s, at + 4);
     if endian::u16_at(s, at + 2) == 2 {
-        return Record::Shift {
+        let record = Record::Shift {
             client,
             masks: at + 6,
+        };
+        return Known {
+            record,
             next: at + (6 + 8 * keys),
         };
     }
     let m = endian::byte_at(s, at + 5);
     let masks = at + (10 + 8 * m);
-    Record::Commit {
+    let record = Record::Commit {
         client,
         count: m,
         session: endian::u32_at(s, at + 6),
         operations: at + 10,
         masks,
+    };
+    Known {
+        record,
         next: masks + 8 * keys,
     }
 }

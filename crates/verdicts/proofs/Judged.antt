@@ -53,7 +53,7 @@ module _ {s : Store} {u : View} {c : Commit} {versions keys commits links views 
     own-is = searched .1 ∙ own-is s u c;
   }
 
-  pub judging : Judging s u c w lost own seen ranks values versions keys views base n
+  pub judging : Judging s u c (record { seen = seen; ranks = ranks; lost = lost; own = own; wanted = w }) values versions keys views base n
   judging = record { at-hand = at-hand; holds = b .holds; operations = b .operations; arrays = b .arrays }
 
 -- where no clause fails the verdicts stay

@@ -1,9 +1,8 @@
-pub mod Gathering
 pub mod TableOfLevels
-pub mod MissingSame
 pub mod FirstFailing
 pub mod OnSets
 pub mod ByClause
 pub mod Searches
 pub mod Noted
 pub mod Judged
+pub mod Words

@@ -7,7 +7,7 @@ use mathlib.Core.List.{List}
 use native.Mathlib.Omega.{arith}
 use native.Mathlib.Decide.{ℕ-discrete}
 use lib.Bits.{bitAnd}
-use lib.ListN.{length, getD, set, length-set}
+use lib.ListN.{getD, set, length-set}
 use lib.Seq.{getD-set-same, getD-set-other}
 use Rattle.search.specs.Choose.{mapSome, orElse}
 use Rattle.sets.specs.Set.{Set, lowest}
@@ -17,82 +17,82 @@ use Rattle.levels.specs.Level.{Level, clausesOf, Failure, failure, failsClauses
 use Rattle.state.specs.declared.Found.{Found}
 use Rattle.state.specs.declared.Found.the-variants.{At, Nothing}
 use Rattle.state.specs.Answers.{placeOf}
-use Rattle.verdicts.specs.Verdicts.{levelAt, numbersOf, KeepsVerdict, KeepsVerdicts, FailingClauses, writtenDown, NotesLevel}
+use Rattle.verdicts.specs.Verdicts.{levelCount, levelAt, numbersOf, recordPlace, keyPlace, versionPlace, VerdictsRoom, KeepsVerdict, KeepsVerdicts, FailingClauses, writtenDown, NotesLevel}
 use Rattle.verdicts.proofs.FirstFailing.{number-range, level-fails}
 
 -- ---- four words
 
-module _ (v : List ℕ) (room : length v ≡ 40) (i : ℕ) (l : i < 10) (a b c d : ℕ) where
+module _ (v : List ℕ) (room : VerdictsRoom v) (i : ℕ) (l : i < levelCount) (a b c d : ℕ) where
   one : List ℕ
   one = set v i a
 
   two : List ℕ
-  two = set one (10 + i) b
+  two = set one (recordPlace i) b
 
   three : List ℕ
-  three = set two (20 + i) c
+  three = set two (keyPlace i) c
 
   four : List ℕ
-  four = set three (30 + i) d
+  four = set three (versionPlace i) d
 
-  one-long : length one ≡ 40
+  one-long : VerdictsRoom one
   unfolding one
   one-long = length-set v i a ∙ room
 
-  two-long : length two ≡ 40
+  two-long : VerdictsRoom two
   unfolding two
-  two-long = length-set one (10 + i) b ∙ one-long
+  two-long = length-set one (recordPlace i) b ∙ one-long
 
-  three-long : length three ≡ 40
+  three-long : VerdictsRoom three
   unfolding three
-  three-long = length-set two (20 + i) c ∙ two-long
+  three-long = length-set two (keyPlace i) c ∙ two-long
 
   first-word : getD four i 0 ≡ a
   unfolding one two three four
   first-word =
-      getD-set-other three (30 + i) i d 0 (λ e. omega arith) ∙ getD-set-other two (20 + i) i c 0 (λ e. omega arith)
-      ∙ getD-set-other one (10 + i) i b 0 (λ e. omega arith) ∙ getD-set-same v i a 0 (omega arith)
+      getD-set-other three (versionPlace i) i d 0 (λ e. omega arith) ∙ getD-set-other two (keyPlace i) i c 0 (λ e. omega arith)
+      ∙ getD-set-other one (recordPlace i) i b 0 (λ e. omega arith) ∙ getD-set-same v i a 0 (omega arith)
 
-  second-word : getD four (10 + i) 0 ≡ b
+  second-word : getD four (recordPlace i) 0 ≡ b
   unfolding two three four
   second-word =
-      getD-set-other three (30 + i) (10 + i) d 0 (λ e. omega arith) ∙ getD-set-other two (20 + i) (10 + i) c 0 (λ e. omega arith)
-      ∙ getD-set-same one (10 + i) b 0 (omega (arith, one-long))
+      getD-set-other three (versionPlace i) (recordPlace i) d 0 (λ e. omega arith) ∙ getD-set-other two (keyPlace i) (recordPlace i) c 0 (λ e. omega arith)
+      ∙ getD-set-same one (recordPlace i) b 0 (omega (arith, one-long))
 
-  third-word : getD four (20 + i) 0 ≡ c
+  third-word : getD four (keyPlace i) 0 ≡ c
   unfolding three four
-  third-word = getD-set-other three (30 + i) (20 + i) d 0 (λ e. omega arith) ∙ getD-set-same two (20 + i) c 0 (omega (arith, two-long))
+  third-word = getD-set-other three (versionPlace i) (keyPlace i) d 0 (λ e. omega arith) ∙ getD-set-same two (keyPlace i) c 0 (omega (arith, two-long))
 
-  fourth-word : getD four (30 + i) 0 ≡ d
+  fourth-word : getD four (versionPlace i) 0 ≡ d
   unfolding four
-  fourth-word = getD-set-same three (30 + i) d 0 (omega (arith, three-long))
+  fourth-word = getD-set-same three (versionPlace i) d 0 (omega (arith, three-long))
 
 -- the other words stay
-other-words : (v : List ℕ) (i clause n : ℕ) (f : Found) (q : ℕ) → q ≢ i → q ≢ 10 + i → q ≢ 20 + i → q ≢ 30 + i → getD (writtenDown v i clause n f) q 0 ≡ getD v q 0
+other-words : (v : List ℕ) (i clause n : ℕ) (f : Found) (q : ℕ) → q ≢ i → q ≢ recordPlace i → q ≢ keyPlace i → q ≢ versionPlace i → getD (writtenDown v i clause n f) q 0 ≡ getD v q 0
 unfolding writtenDown
 other-words v i clause n Nothing q a b c d = refl
 other-words v i clause n (At k j) q a b c d =
-    getD-set-other (set (set (set v i clause) (10 + i) n) (20 + i) (k .0)) (30 + i) q (j .0) 0 d ∙ getD-set-other (set (set v i clause) (10 + i) n) (20 + i) q (k .0) 0 c
-    ∙ getD-set-other (set v i clause) (10 + i) q n 0 b ∙ getD-set-other v i q clause 0 a
+    getD-set-other (set (set (set v i clause) (recordPlace i) n) (keyPlace i) (k .0)) (versionPlace i) q (j .0) 0 d ∙ getD-set-other (set (set v i clause) (recordPlace i) n) (keyPlace i) q (k .0) 0 c
+    ∙ getD-set-other (set v i clause) (recordPlace i) q n 0 b ∙ getD-set-other v i q clause 0 a
 
-other-levels : (v : List ℕ) (i clause n : ℕ) (f : Found) → i < 10 → (j : ℕ) → j < 10 → j ≢ i → (old : Option Failure) → KeepsVerdict v j old → KeepsVerdict (writtenDown v i clause n f) j old
+other-levels : (v : List ℕ) (i clause n : ℕ) (f : Found) → i < levelCount → (j : ℕ) → j < levelCount → j ≢ i → (old : Option Failure) → KeepsVerdict v j old → KeepsVerdict (writtenDown v i clause n f) j old
 unfolding KeepsVerdict
 other-levels v i clause n f l j m d none h = stays j (λ e. omega arith) (λ e. omega arith) (λ e. omega arith) (λ e. omega arith) ∙ h
   where
-    stays : (q : ℕ) → q ≢ i → q ≢ 10 + i → q ≢ 20 + i → q ≢ 30 + i → getD (writtenDown v i clause n f) q 0 ≡ getD v q 0
+    stays : (q : ℕ) → q ≢ i → q ≢ recordPlace i → q ≢ keyPlace i → q ≢ versionPlace i → getD (writtenDown v i clause n f) q 0 ≡ getD v q 0
     stays = other-words v i clause n f
 other-levels v i clause n f l j m d (some x) (h0, h1, h2, h3) = (
   stays j (λ e. omega arith) (λ e. omega arith) (λ e. omega arith) (λ e. omega arith) ∙ h0,
-  stays (10 + j) (λ e. omega arith) (λ e. omega arith) (λ e. omega arith) (λ e. omega arith) ∙ h1,
-  stays (20 + j) (λ e. omega arith) (λ e. omega arith) (λ e. omega arith) (λ e. omega arith) ∙ h2,
-  stays (30 + j) (λ e. omega arith) (λ e. omega arith) (λ e. omega arith) (λ e. omega arith) ∙ h3,
+  stays (recordPlace j) (λ e. omega arith) (λ e. omega arith) (λ e. omega arith) (λ e. omega arith) ∙ h1,
+  stays (keyPlace j) (λ e. omega arith) (λ e. omega arith) (λ e. omega arith) (λ e. omega arith) ∙ h2,
+  stays (versionPlace j) (λ e. omega arith) (λ e. omega arith) (λ e. omega arith) (λ e. omega arith) ∙ h3,
 )
   where
-    stays : (q : ℕ) → q ≢ i → q ≢ 10 + i → q ≢ 20 + i → q ≢ 30 + i → getD (writtenDown v i clause n f) q 0 ≡ getD v q 0
+    stays : (q : ℕ) → q ≢ i → q ≢ recordPlace i → q ≢ keyPlace i → q ≢ versionPlace i → getD (writtenDown v i clause n f) q 0 ≡ getD v q 0
     stays = other-words v i clause n f
 
 -- the words of the level are what was found
-this-level : (v : List ℕ) (i n t : ℕ) (x : Clause) (f : Found) → length v ≡ 40 → i < 10 → getD v i 0 ≡ 0
+this-level : (v : List ℕ) (i n t : ℕ) (x : Clause) (f : Found) → VerdictsRoom v → i < levelCount → getD v i 0 ≡ 0
     → KeepsVerdict (writtenDown v i (clauseNumber x) n f) i (mapSome (failure t n x) (placeOf f))
 unfolding KeepsVerdict writtenDown mapSome one two three four
 this-level v i n t x Nothing room l e = e
@@ -128,8 +128,8 @@ keeps-failure v i new n = record { here = λ old h. rw (failed v i old new h n) 
 pub nothing-new : (v : List ℕ) (i : ℕ) {new : Option Failure} → new ≡ none → NotesLevel i new v v
 nothing-new v i {new} e = rw e (record { here = λ old h. rw (orElse-end old) h; there = λ j l d old h. h })
 
-pub takes-failure : (n : ℕ) (s : Store) (u : View) (c : Commit) (failing : Set) → FailingClauses s u c failing → (i : ℕ) → i < 10
-    → {struck clause : ℕ} (f : Found) {before after : List ℕ} → length before ≡ 40 → getD before i 0 ≡ 0
+pub takes-failure : (n : ℕ) (s : Store) (u : View) (c : Commit) (failing : Set) → FailingClauses s u c failing → (i : ℕ) → i < levelCount
+    → {struck clause : ℕ} (f : Found) {before after : List ℕ} → VerdictsRoom before → getD before i 0 ≡ 0
     → struck ≡ bitAnd (numbersOf (clausesOf (levelAt i))) failing → 0 < struck → struck < 2 ^ 64 → clause ≡ lowest struck
     → ((x : Clause) → clauseNumber x ≡ clause → placeOf f ≡ missingBy s u c x) → after ≡ writtenDown before i clause n f
     → NotesLevel i (failsClauses n s u c (clausesOf (levelAt i))) before after
@@ -152,12 +152,12 @@ takes-failure n s u c failing h i l {struck} {clause} f {before} {after} room e 
 -- the levels below l have been noted
 pub record Noted (news : ℕ → Option Failure) (l : ℕ) (before after : List ℕ) : Type 0 where
   pub done : (i : ℕ) → i < l → (old : Option Failure) → KeepsVerdict before i old → KeepsVerdict after i (orElse old (news i))
-  pub waits : (i : ℕ) → i < 10 → l ≤ i → (old : Option Failure) → KeepsVerdict before i old → KeepsVerdict after i old
+  pub waits : (i : ℕ) → i < levelCount → l ≤ i → (old : Option Failure) → KeepsVerdict before i old → KeepsVerdict after i old
 
 pub noted-none : (news : ℕ → Option Failure) (v : List ℕ) → Noted news 0 v v
 noted-none news v = record { done = λ i l. absurd (omega arith); waits = λ i l m old h. h }
 
-pub noted-on : {news : ℕ → Option Failure} {l : ℕ} {before between after : List ℕ} → Noted news l before between → l < 10 → NotesLevel l (news l) between after
+pub noted-on : {news : ℕ → Option Failure} {l : ℕ} {before between after : List ℕ} → Noted news l before between → l < levelCount → NotesLevel l (news l) between after
     → Noted news (l + 1) before after
 noted-on {news} {l} {before} {between} {after} h m n = record {
   done = λ i b old k. at i b old k (ℕ-discrete i l);
@@ -168,6 +168,6 @@ noted-on {news} {l} {before} {between} {after} h m n = record {
     at i b old k (yes e) = rw e (n .here old (h .waits l m (omega arith) old (rw e at k)))
     at i b old k (no d) = n .there i (omega arith) d (orElse old (news i)) (h .done i (omega arith) old k)
 
-pub noted-all : (fails : Level → Option Failure) {l : ℕ} {before after : List ℕ} → Noted (λ i. fails (levelAt i)) l before after → 10 ≤ l → length after ≡ 40
+pub noted-all : (fails : Level → Option Failure) {l : ℕ} {before after : List ℕ} → Noted (λ i. fails (levelAt i)) l before after → levelCount ≤ l → VerdictsRoom after
     → (fs : Level → Option Failure) → KeepsVerdicts fs before → KeepsVerdicts (λ m. orElse (fs m) (fails m)) after
 noted-all fails {l} h b e fs k = record { room = e; verdict = λ i m. h .done i (omega arith) (fs (levelAt i)) (k .verdict i m) }

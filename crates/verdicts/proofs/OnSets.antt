@@ -6,7 +6,7 @@ use mathlib.Core.List.{List}
 use lib.Dec.{T}
 use lib.ListN.{getD}
 use Rattle.search.proofs.Tests.{same}
-use Rattle.sets.specs.Set.{Set, has, without}
+use Rattle.sets.specs.Set.{Set, has, without, width}
 use Rattle.sets.proofs.Laws.{has-none, has-lt}
 use Rattle.relations.specs.Relation.{Plus}
 use Rattle.dependencies.specs.History.{SO, Holds}
@@ -19,11 +19,11 @@ use Rattle.growth.specs.Links.{FromWrite}
 use Rattle.growth.specs.Sessions.{ReadUpTo}
 use Rattle.growth.specs.Views.{Lacking}
 use Rattle.growth.specs.Clauses.{LeadsToHeld}
-use Rattle.state.specs.Places.{numbers}
+use Rattle.state.specs.Places.{numbers, beforePlace, readPlace}
 use Rattle.state.specs.Rows.{InRows}
 use Rattle.state.specs.Keeps.{IsSet, KeepsKeys, KeepsCommits, KeepsOperations, Step}
 use Rattle.state.proofs.Sets.{isSet-as, isSet-without}
-use Rattle.views.proofs.Codes.{writes-is}
+use Rattle.state.proofs.Ranks.{writes-rank}
 use Rattle.paths.specs.Path.{LeadsInto}
 use Rattle.views.specs.Gained.{WriterBelow}
 use Rattle.verdicts.specs.Sources.{InKeys}
@@ -31,7 +31,7 @@ use Rattle.verdicts.specs.Wants.{LacksSome, Wants}
 
 -- a key is written where its rank is in the set
 pub writes-ranked : {c : Commit} {ranks : Set} {values : List ℕ} → KeepsOperations c ranks values → (k : Key) → T (writes c k) ↔ T (has ranks (2 * k + 1))
-writes-ranked {c} {ranks} {values} h k = rw (writes-is c ranks values h k) same
+writes-ranked h k = rw (writes-rank h k) same
 
 module _ (s : Store) (u : View) (seen : Set) (h : IsSet seen (Holds (history s) (held u))) where
   -- the writers of the store of which the view holds nothing
@@ -48,15 +48,15 @@ module _ (s : Store) (u : View) (seen : Set) (h : IsSet seen (Holds (history s) 
   rows-are : (R : ℕ → ℕ → Type 0) (rows : List ℕ) (from r : ℕ) → seen < 2 ^ 64 → ((t : CommitNumber) → t < numbers → IsSet (getD rows (from + t) 0) (λ a. R a t))
       → IsSet r (InRows rows from seen) → IsSet r (LeadsToHeld s u R)
   rows-are R rows from r l row = isSet-as r (λ a. (
-    λ (t, x, y). (t, h t .0 x, row t (has-lt 64 seen t l x) a .0 y),
-    λ (t, x, y). let z = h t .1 x in (t, z, row t (has-lt 64 seen t l z) a .1 y),
+    λ (t, x, y). (t, h t .0 x, row t (has-lt width seen t l x) a .0 y),
+    λ (t, x, y). let z = h t .1 x in (t, z, row t (has-lt width seen t l z) a .1 y),
   ))
 
-  pub before-is : (commits : List ℕ) (r : ℕ) → seen < 2 ^ 64 → KeepsCommits s commits → IsSet r (InRows commits 64 seen) → IsSet r (LeadsToHeld s u (SO (history s)))
-  before-is commits r l kept = rows-are (SO (history s)) commits 64 r l (kept .before)
+  pub before-is : (commits : List ℕ) (r : ℕ) → seen < 2 ^ 64 → KeepsCommits s commits → IsSet r (InRows commits (beforePlace 0) seen) → IsSet r (LeadsToHeld s u (SO (history s)))
+  before-is commits r l kept = rows-are (SO (history s)) commits (beforePlace 0) r l (kept .before)
 
-  pub read-is : (commits : List ℕ) (r : ℕ) → seen < 2 ^ 64 → KeepsCommits s commits → IsSet r (InRows commits 128 seen) → IsSet r (LeadsToHeld s u (ReadUpTo (history s)))
-  read-is commits r l kept = rows-are (ReadUpTo (history s)) commits 128 r l (kept .read)
+  pub read-is : (commits : List ℕ) (r : ℕ) → seen < 2 ^ 64 → KeepsCommits s commits → IsSet r (InRows commits (readPlace 0) seen) → IsSet r (LeadsToHeld s u (ReadUpTo (history s)))
+  read-is commits r l kept = rows-are (ReadUpTo (history s)) commits (readPlace 0) r l (kept .read)
 
   -- the writers of the keys written
   pub written-is : (c : Commit) (keys : List ℕ) (ranks : Set) (values : List ℕ) (n r : ℕ) → s .keys ≡ n → SoundStore s → KeepsKeys s keys → KeepsOperations c ranks values

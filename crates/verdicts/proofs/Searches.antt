@@ -36,9 +36,9 @@ use Rattle.state.proofs.Sets.{isSet-union}
 use Rattle.views.specs.Rules.{byWriter, byReader, ofWritten}
 use Rattle.views.proofs.Words.{meets-is}
 use Rattle.verdicts.specs.Wants.{LacksSome}
+use Rattle.views.proofs.Misses.{missing-same, missing-agree}
 use Rattle.verdicts.proofs.OnSets.{writes-ranked}
 use Rattle.verdicts.proofs.FirstFailing.{same-clause}
-use Rattle.verdicts.proofs.MissingSame.{missing-same}
 
 -- ---- clauses 1 and 2
 
@@ -63,10 +63,7 @@ module _ (s : Store) (h : SoundStore s) (u : View) (v : IsView s u) where
 
   -- rules that agree on what is not held
   rules-agree : (f g : Rule) → ((k i : ℕ) → Lacking s u (version s k i .writer) → T (f k i) ↔ T (g k i)) → missing s f u ≡ missing s g u
-  rules-agree f g e = missing-same s s f g u u refl (λ k i. (
-    λ (l, t, n). (l, e k i (writer-lacking k i l n) .0 t, n),
-    λ (l, t, n). (l, e k i (writer-lacking k i l n) .1 t, n),
-  ))
+  rules-agree f g e = missing-agree s f g u (λ k i l n. e k i (writer-lacking k i l n))
 
   -- "if u holds a version by t, versions by any t' with t' R t", for any links
   leading-rule : {R : ℕ → ℕ → Type 0} (r : Relation) → Means r R → (k i : ℕ) → T (leadingTo s u r k i) ↔ LeadsToHeld s u R (version s k i .writer)

@@ -5,7 +5,7 @@ use mathlib.Core.List.{List, [], _∷_, map}
 use native.Mathlib.Omega.{arith}
 use lib.ListN.{length, getD}
 use Rattle.levels.specs.Level.{SER, levels, clausesOf}
-use Rattle.verdicts.specs.Verdicts.{levelAt, numbersOf}
+use Rattle.verdicts.specs.Verdicts.{levelCount, levelAt, numbersOf}
 
 -- an entry of a table that is made from a list
 entry : {A : Type 0} (f : A → ℕ) (xs : List A) (d : A) (i : ℕ) → i < length xs → getD (map f xs) i 0 ≡ f (getD xs i d)
@@ -20,5 +20,5 @@ table-is : map (λ l. numbersOf (clausesOf l)) levels ≡ table
 unfolding numbersOf
 table-is = refl
 
-pub table-entry : (i : ℕ) → i < 10 → getD table i 0 ≡ numbersOf (clausesOf (levelAt i))
+pub table-entry : (i : ℕ) → i < levelCount → getD table i 0 ≡ numbersOf (clausesOf (levelAt i))
 table-entry i l = ap (λ (xs : List ℕ). getD xs i 0) (sym table-is) ∙ entry (λ m. numbersOf (clausesOf m)) levels SER i l

@@ -19,6 +19,7 @@ use Rattle.state.specs.Answers.{placeOf}
 use Rattle.views.specs.Rules.{StoreAndView}
 use Rattle.views.specs.Own.{AddsOwn}
 use Rattle.verdicts.specs.declared.Wanted.{Wanted}
+use Rattle.verdicts.specs.declared.Hand.{Hand}
 use Rattle.verdicts.specs.Wants.{Wants}
 
 -- commit c is made on view u of store s: the commits that clauses 3 to 8 want, and what clauses 1 and 2 find missing
@@ -31,10 +32,10 @@ pub record AtHand (s : Store) (u : View) (c : Commit) (w : Wanted) (lost own : F
   pub own-is : placeOf own ≡ missingBy s u c readYourWrites
 
 -- and the arrays in which the missing versions are searched
-pub record Judging (s : Store) (u : View) (c : Commit) (w : Wanted) (lost own : Found) (seen ranks : Set) (values versions keys views : List ℕ) (base n : ℕ) : Type 0 where
-  pub at-hand : AtHand s u c w lost own
-  pub holds : IsSet seen (Holds (history s) (held u))
-  pub operations : KeepsOperations c ranks values
+pub record Judging (s : Store) (u : View) (c : Commit) (h : Hand) (values versions keys views : List ℕ) (base n : ℕ) : Type 0 where
+  pub at-hand : AtHand s u c (h .wanted) (h .lost) (h .own)
+  pub holds : IsSet (h .seen) (Holds (history s) (held u))
+  pub operations : KeepsOperations c (h .ranks) values
   pub arrays : StoreAndView s u n versions keys views base
 
 -- before anything of commit c, made on view u of store s, is applied: the arrays keep s; u stands in `views` from `base` on, the view after in `fresh`;

@@ -1,4 +1,5 @@
 pub mod Sources
 pub mod Verdicts
+pub mod Told
 pub mod Wants
 pub mod AtHand

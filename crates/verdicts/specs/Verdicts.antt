@@ -14,6 +14,10 @@ use Rattle.levels.specs.Level.{Level, SER, levels, Failure}
 use Rattle.state.specs.declared.Found.{Found}
 use Rattle.state.specs.declared.Found.the-variants.{At, Nothing}
 
+-- the levels are so many
+abbrev pub levelCount : ℕ
+levelCount = length levels
+
 -- the level at a place in report order
 abbrev pub levelAt : ℕ → Level
 levelAt i = getD levels i SER
@@ -23,19 +27,25 @@ unfoldable pub numbersOf : List Clause → Set
 numbersOf [] = 0
 numbersOf (x ∷ xs) = insert (clauseNumber x) (numbersOf xs)
 
--- ---- the array of verdicts: four tables of ten, in report order
+-- ---- the array of verdicts: four tables with a word for each level, in report order
 
 abbrev pub clausePlace : ℕ → ℕ
 clausePlace i = i
 
 abbrev pub recordPlace : ℕ → ℕ
-recordPlace i = 10 + i
+recordPlace i = levelCount + i
 
 abbrev pub keyPlace : ℕ → ℕ
-keyPlace i = 20 + i
+keyPlace i = 2 * levelCount + i
 
 abbrev pub versionPlace : ℕ → ℕ
-versionPlace i = 30 + i
+versionPlace i = 3 * levelCount + i
+
+abbrev pub verdictsLength : ℕ
+verdictsLength = 4 * levelCount
+
+abbrev pub VerdictsRoom : List ℕ → Type 0
+VerdictsRoom verdicts = length verdicts ≡ verdictsLength
 
 -- the four words of a level: the clause is 0 while it has not failed
 unfoldable pub KeepsVerdict : List ℕ → ℕ → Option Failure → Type 0
@@ -45,8 +55,8 @@ KeepsVerdict verdicts i (some f) =
     × (getD verdicts (keyPlace i) 0 ≡ f .key) × (getD verdicts (versionPlace i) 0 ≡ f .version)
 
 pub record KeepsVerdicts (fs : Level → Option Failure) (verdicts : List ℕ) : Type 0 where
-  pub room : length verdicts ≡ 4 * length levels
-  pub verdict : (i : ℕ) → i < length levels → KeepsVerdict verdicts i (fs (levelAt i))
+  pub room : VerdictsRoom verdicts
+  pub verdict : (i : ℕ) → i < levelCount → KeepsVerdict verdicts i (fs (levelAt i))
 
 -- ---- the clauses that a commit fails
 
@@ -64,4 +74,4 @@ writtenDown verdicts i clause n Nothing = verdicts
 -- the level at place i keeps its failure, or takes the new one where it had none; the other levels keep theirs
 pub record NotesLevel (i : ℕ) (new : Option Failure) (before after : List ℕ) : Type 0 where
   pub here : (old : Option Failure) → KeepsVerdict before i old → KeepsVerdict after i (orElse old new)
-  pub there : (j : ℕ) → j < length levels → j ≢ i → (old : Option Failure) → KeepsVerdict before j old → KeepsVerdict after j old
+  pub there : (j : ℕ) → j < levelCount → j ≢ i → (old : Option Failure) → KeepsVerdict before j old → KeepsVerdict after j old

@@ -7,12 +7,13 @@ ghost use mathlib.Core.List.{List};
 ghost use mathlib.Core.Logic.{_↔_};
 ghost use mathlib.Core.Option.{none};
 ghost use Prim.Native.Nat.{ℕ, _<_, _≤_};
-ghost use lib.ListN.{length};
-ghost use Rattle.sets.specs.Set.{insert};
+ghost use Rattle.sets.specs.Set.{insert, width};
 ghost use Rattle.dependencies.specs.History.{Holds};
+ghost use Rattle.store.specs.Limits.{maxKeys, numbers};
 ghost use Rattle.store.specs.Store.{Store, View, Commit};
 ghost use Rattle.store.specs.Sound.{SoundStore};
 ghost use Rattle.store.specs.History.{history, held};
+ghost use Rattle.state.specs.Room.{KeysRoom, CommitsRoom, LinksRoom};
 ghost use Rattle.state.specs.Keeps.{IsSet, KeepsKeys, KeepsCommits, KeepsLinks, KeepsOperations};
 ghost use Rattle.state.specs.Answers.{placeOf};
 ghost use Rattle.verdicts.specs.Wants.{Wants};
@@ -28,7 +29,7 @@ pub fn wanted(
     ranks: u64,
     n: usize,
 ) -> Wanted
-    requires { ⌜ (n ≤ 16) × (length (now keys) ≡ 32) × (length (now commits) ≡ 192) × (length (now links) ≡ 160) ⌝ }
+    requires { ⌜ (n ≤ maxKeys) × KeysRoom (now keys) × CommitsRoom (now commits) × LinksRoom (now links) ⌝ }
     ensures { λ r. ⌜ ((s : Store) (u : View) (c : Commit) (values : List ℕ) → s .keys ≡ n → SoundStore s → KeepsKeys s (now (keys .entry)) → KeepsCommits s (now (commits .entry)) → KeepsLinks s (now (links .entry)) → KeepsOperations c ranks values → IsSet seen (Holds (history s) (held u)) → Wants s u c r) ⌝ }
 {
     let lacking = sets::without(views::held::all_writers(keys, n), seen);
@@ -42,7 +43,7 @@ pub fn wanted(
             snapshot: 0,
         };
     }
-    let past = state::gather_two(commits, 64, 128, seen);
+    let past = state::gather_two(commits, state::BEFORE, state::READ_FROM, seen);
     let leads = paths::leading(links, seen);
     let written = sources::written(keys, ranks, n);
     Wanted {
@@ -67,7 +68,7 @@ fn found(f: state::Found) -> u64
 
 // The set with the clause in it, where `met` is not 0.
 fn mark(set: u64, clause: usize, met: u64) -> u64
-    requires { ⌜ clause < 64 ⌝ }
+    requires { ⌜ clause < width ⌝ }
     ensures { λ r. ⌜ (met ≡ 0 → r ≡ set) × (¬ (met ≡ 0) → r ≡ insert clause set) ⌝ }
 {
     if met == 0 {

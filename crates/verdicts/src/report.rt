@@ -1,6 +1,6 @@
-// The first failure of each level: forty words, the clause (0 while the level has not failed), the record, the key and the version, ten of each in
-// report order.
-use crate::Wanted;
+// The first failure of each level: the clause (0 while the level has not failed), the record, the key and the version, a table of each with a word for
+// each level in report order.
+use crate::Hand;
 use crate::clauses;
 use crate::missing;
 use crate::table;
@@ -10,22 +10,24 @@ ghost use mathlib.Core.List.{List};
 ghost use Prim.Native.Nat.{ℕ, _+_, _<_, _≤_};
 ghost use lib.ListN.{length};
 ghost use Rattle.search.specs.Choose.{orElse};
+ghost use Rattle.store.specs.Limits.{maxKeys};
 ghost use Rattle.store.specs.Store.{Store, View, Commit};
 ghost use Rattle.levels.specs.Level.{Level, clausesOf, Failure, failsClauses};
+ghost use Rattle.state.specs.Room.{VersionsRoom, KeysRoom, CommitsRoom, LinksRoom, FreshRoom};
 ghost use Rattle.verdicts.specs.AtHand.{Judging, BeforeCommit};
-ghost use Rattle.verdicts.specs.Verdicts.{levelAt, FailingClauses, writtenDown, NotesLevel, KeepsVerdicts};
+ghost use Rattle.verdicts.specs.Verdicts.{levelCount, levelAt, VerdictsRoom, FailingClauses, writtenDown, NotesLevel, KeepsVerdicts};
 
 // What a search by a clause found for a level.
 fn write_down(verdicts: &mut [u64], level: usize, clause: usize, number: usize, at: state::Found)
-    requires { ⌜ (length (now verdicts) ≡ 40) × (level < 10) ⌝ }
+    requires { ⌜ VerdictsRoom (now verdicts) × (level < levelCount) ⌝ }
     ensures { λ _. ⌜ now (verdicts .exit) ≡ writtenDown (now (verdicts .entry)) level clause number at ⌝ }
 {
     match at {
         state::Found::At(k, v) => {
             verdicts[level] = clause as u64;
-            verdicts[10 + level] = number as u64;
-            verdicts[20 + level] = k.0 as u64;
-            verdicts[30 + level] = v.0 as u64;
+            verdicts[crate::RECORDS + level] = number as u64;
+            verdicts[crate::KEYS + level] = k.0 as u64;
+            verdicts[crate::VERSIONS + level] = v.0 as u64;
         }
         state::Found::Nothing => {}
     }
@@ -37,19 +39,15 @@ fn note_level(
     level: usize,
     failing: u64,
     number: usize,
-    w: Wanted,
-    lost: state::Found,
-    own: state::Found,
-    seen: u64,
-    ranks: u64,
+    h: Hand,
     versions: &[u64],
     keys: &[u64],
     views: &[u64],
     base: usize,
     n: usize,
 )
-    requires { ⌜ (length (now verdicts) ≡ 40) × (level < 10) × (n ≤ 16) × (length (now versions) ≡ 2048) × (length (now keys) ≡ 32) × (base + n ≤ length (now views)) ⌝ }
-    ensures { λ _. ⌜ ((s : Store) (u : View) (c : Commit) (values : List ℕ) → Judging s u c w lost own seen ranks values (now (versions .entry)) (now (keys .entry)) (now (views .entry)) base n → FailingClauses s u c failing → NotesLevel level (failsClauses number s u c (clausesOf (levelAt level))) (now (verdicts .entry)) (now (verdicts .exit))) ⌝ }
+    requires { ⌜ VerdictsRoom (now verdicts) × (level < levelCount) × (n ≤ maxKeys) × VersionsRoom (now versions) × KeysRoom (now keys) × (base + n ≤ length (now views)) ⌝ }
+    ensures { λ _. ⌜ ((s : Store) (u : View) (c : Commit) (values : List ℕ) → Judging s u c h values (now (versions .entry)) (now (keys .entry)) (now (views .entry)) base n → FailingClauses s u c failing → NotesLevel level (failsClauses number s u c (clausesOf (levelAt level))) (now (verdicts .entry)) (now (verdicts .exit))) ⌝ }
 {
     if verdicts[level] != 0 {
         return;
@@ -59,19 +57,7 @@ fn note_level(
         return;
     }
     let clause = sets::lowest(struck);
-    let at = missing::missing_by(
-        clause,
-        w,
-        lost,
-        own,
-        seen,
-        ranks,
-        versions,
-        keys,
-        views,
-        base,
-        n,
-    );
+    let at = missing::missing_by(clause, h, versions, keys, views, base, n);
     write_down(verdicts, level, clause, number, at);
 }
 
@@ -80,32 +66,24 @@ pub fn note(
     verdicts: &mut [u64],
     failing: u64,
     number: usize,
-    w: Wanted,
-    lost: state::Found,
-    own: state::Found,
-    seen: u64,
-    ranks: u64,
+    h: Hand,
     versions: &[u64],
     keys: &[u64],
     views: &[u64],
     base: usize,
     n: usize,
 )
-    requires { ⌜ (length (now verdicts) ≡ 40) × (n ≤ 16) × (length (now versions) ≡ 2048) × (length (now keys) ≡ 32) × (base + n ≤ length (now views)) ⌝ }
-    ensures { λ _. ⌜ ((s : Store) (u : View) (c : Commit) (values : List ℕ) (fs : Level → Option Failure) → Judging s u c w lost own seen ranks values (now (versions .entry)) (now (keys .entry)) (now (views .entry)) base n → FailingClauses s u c failing → KeepsVerdicts fs (now (verdicts .entry)) → KeepsVerdicts (λ l. orElse (fs l) (failsClauses number s u c (clausesOf l))) (now (verdicts .exit))) ⌝ }
+    requires { ⌜ VerdictsRoom (now verdicts) × (n ≤ maxKeys) × VersionsRoom (now versions) × KeysRoom (now keys) × (base + n ≤ length (now views)) ⌝ }
+    ensures { λ _. ⌜ ((s : Store) (u : View) (c : Commit) (values : List ℕ) (fs : Level → Option Failure) → Judging s u c h values (now (versions .entry)) (now (keys .entry)) (now (views .entry)) base n → FailingClauses s u c failing → KeepsVerdicts fs (now (verdicts .entry)) → KeepsVerdicts (λ l. orElse (fs l) (failsClauses number s u c (clausesOf l))) (now (verdicts .exit))) ⌝ }
 {
     let mut level: usize = 0;
-    while level < 10 {
+    while level < crate::LEVELS {
         note_level(
             verdicts,
             level,
             failing,
             number,
-            w,
-            lost,
-            own,
-            seen,
-            ranks,
+            h,
             versions,
             keys,
             views,
@@ -134,7 +112,7 @@ pub fn judge(
     plain: bool,
     n: usize,
 )
-    requires { ⌜ (length (now verdicts) ≡ 40) × (n ≤ 16) × (length (now versions) ≡ 2048) × (length (now keys) ≡ 32) × (length (now commits) ≡ 192) × (length (now links) ≡ 160) × (base + n ≤ length (now views)) × (length (now fresh) ≡ 16) ⌝ }
+    requires { ⌜ VerdictsRoom (now verdicts) × (n ≤ maxKeys) × VersionsRoom (now versions) × KeysRoom (now keys) × CommitsRoom (now commits) × LinksRoom (now links) × (base + n ≤ length (now views)) × FreshRoom (now fresh) ⌝ }
     ensures { λ _. ⌜ ((s : Store) (u : View) (c : Commit) (values : List ℕ) (fs : Level → Option Failure) → BeforeCommit s u c (now (versions .entry)) (now (keys .entry)) (now (commits .entry)) (now (links .entry)) (now (views .entry)) (now (fresh .entry)) values seen ranks plain base n → KeepsVerdicts fs (now (verdicts .entry)) → KeepsVerdicts (λ l. orElse (fs l) (failsClauses number s u c (clausesOf l))) (now (verdicts .exit))) ⌝ }
 {
     let mut lost = state::Found::Nothing;
@@ -148,19 +126,12 @@ pub fn judge(
     if failing == 0 {
         return;
     }
-    note(
-        verdicts,
-        failing,
-        number,
-        w,
-        lost,
-        own,
+    let h = Hand {
         seen,
         ranks,
-        versions,
-        keys,
-        views,
-        base,
-        n,
-    );
+        lost,
+        own,
+        wanted: w,
+    };
+    note(verdicts, failing, number, h, versions, keys, views, base, n);
 }

@@ -27,7 +27,7 @@ use Rattle.state.proofs.Sets.{isSet-as, isSet-none, isSet-single, isSet-union}
 use Rattle.state.specs.Rows.{RowAt}
 use Rattle.views.specs.Own.{AddsOwn, ownMask, OwnBelow}
 use Rattle.views.proofs.Tests.{has-as}
-use Rattle.views.proofs.Codes.{writes-is}
+use Rattle.state.proofs.Ranks.{writes-rank}
 
 -- ---- the test in words
 
@@ -98,8 +98,8 @@ module _ (s : Store) (u : View) (c : Commit) (made : Made s u c) (few : s .commi
   own-mask k l =
       choose-ind (λ (m : Set). IsSet m (λ i. T (writes c k) × (i ≡ count s k))) (has ranks (2 * k + 1)) _ 0
       (λ t. rw (next-alone (count s k) (omega (arith, made .sound .few k)) (in-keys .full k (omega arith)))
-      (isSet-as _ (λ i. (λ e. (subst T (sym (writes-is c ranks values operations k)) t, e), λ (_, e). e)) (isSet-single (count s k))))
-      (λ t. isSet-none (λ i (w, _). T-not (has ranks (2 * k + 1)) t (subst T (writes-is c ranks values operations k) w)))
+      (isSet-as _ (λ i. (λ e. (subst T (sym (writes-rank operations k)) t, e), λ (_, e). e)) (isSet-single (count s k))))
+      (λ t. isSet-none (λ i (w, _). T-not (has ranks (2 * k + 1)) t (subst T (writes-rank operations k) w)))
 
   -- what the commit makes of one key
   abbrev OwnAt : Key → Type 0

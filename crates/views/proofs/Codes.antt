@@ -1,6 +1,6 @@
 -- Codes 10 and 14 key by key: what the masks say of a key, and the least key. Assumes nothing.
 use Prim.Native.Nat.{ℕ, _+_, _*_, _^_, _≤_, _<_}
-use mathlib.Core.Path.{_≡_, refl, sym, ap, _∙_}
+use mathlib.Core.Path.{_≡_, refl, sym, _∙_}
 use mathlib.Core.Bool.{Bool, true, false, not, _&&_, _||_}
 use mathlib.Core.Logic.{_⊎_, _↔_, _≢_, inl, inr}
 use mathlib.Core.Option.{some, none}
@@ -9,7 +9,6 @@ use native.Mathlib.Omega.{arith}
 use native.Mathlib.Decide.{decLe, decLt}
 use lib.Dec.{T, leb, T-not, not-T}
 use borrow.Author.Tests.{eq-eqb, ne-eqb}
-use Rattle.search.specs.Choose.{isSome}
 use Rattle.search.specs.Search.{any, least}
 use Rattle.search.proofs.Tests.{stable, same, and-is, le-is, or-left, or-right, or-cases}
 use Rattle.search.proofs.Search.{any-is, least-none, least-found}
@@ -17,11 +16,11 @@ use Rattle.sets.specs.Set.{has, below, lowest, without, width}
 use Rattle.sets.proofs.Laws.{has-lt, has-below, below-has, has-lowest}
 use Rattle.sets.proofs.Algebra.{without-is, subset-is, without-word}
 use Rattle.store.specs.Store.{Key, View, Store, count, Commit}
-use Rattle.store.specs.Update.{reads, writes}
 use Rattle.store.specs.Refusal.{badMaskAt, badMask, strayAt, stray}
 use Rattle.state.specs.Keeps.{KeepsOperations}
+use Rattle.state.proofs.Ranks.{reads-rank, writes-rank}
 use Rattle.views.specs.Strays.{strays}
-use Rattle.views.proofs.Tests.{taken, left, has-as, isSome-when}
+use Rattle.views.proofs.Tests.{taken, left, has-as}
 
 -- ---- the least key
 
@@ -50,7 +49,7 @@ module _ (s : Store) (u : View) (k : Key) where
       let m = without mask full in
       let p : 0 < m = omega arith in
       let w = without-is mask full (lowest m) .0 (has-lowest m p (without-word mask full l)) in
-      or-right (not (has (u k) 0)) _ (outside .1 (lowest m, has-lt 64 mask (lowest m) l (w .0), (has-as (lowest m) e (w .0), beyond (lowest m) (w .1) (decLe (count s k) (lowest m)))))
+      or-right (not (has (u k) 0)) _ (outside .1 (lowest m, has-lt width mask (lowest m) l (w .0), (has-as (lowest m) e (w .0), beyond (lowest m) (w .1) (decLe (count s k) (lowest m)))))
     where
       beyond : (i : ℕ) → ¬ T (has full i) → Dec (count s k ≤ i) → count s k ≤ i
       beyond i h (yes x) = x
@@ -74,7 +73,7 @@ module _ (s : Store) (u : View) (k : Key) where
     where
       go : (i : ℕ) → T (has (u k) i) → Dec (i < count s k) → i < count s k
       go i b (yes l) = l
-      go i b (no m) = absurd (n (or-right (not (has (u k) 0)) _ (outside .1 (i, has-lt 64 (u k) i w b, (b, omega arith)))))
+      go i b (no m) = absurd (n (or-right (not (has (u k) 0)) _ (outside .1 (i, has-lt width (u k) i w b, (b, omega arith)))))
 
 pub mask-holds : (s : Store) (u : View) → badMask s u ≡ none → (k : Key) → k < s .keys → u k < 2 ^ 64 → T (has (u k) 0) × ((i : ℕ) → T (has (u k) i) → i < count s k)
 unfolding badMask
@@ -114,17 +113,10 @@ module _ (mask view ranks k : ℕ) where
       go false = refl
 
 module _ (c : Commit) (ranks : ℕ) (values : List ℕ) (h : KeepsOperations c ranks values) (k : Key) where
-  -- the ranks say which keys have an operation
-  pub reads-is : reads c k ≡ has ranks (2 * k)
-  reads-is = ap isSome (h .reads k) ∙ isSome-when _ _
-
-  pub writes-is : writes c k ≡ has ranks (2 * k + 1)
-  writes-is = ap isSome (h .writes k) ∙ isSome-when _ _
-
   module _ (old : View) {mask view : ℕ} (e : mask ≡ c .viewAfter k) (f : view ≡ old k) where
     stray-is : strayAt old c k ≡ strays mask view ranks k
     unfolding strays
-    stray-is = rw (reads-is, writes-is, ← e, ← f)
+    stray-is = rw (reads-rank h k, writes-rank h k, ← e, ← f)
 
     pub stray-yes : {r : Bool} → r ≡ true → r ≡ strays mask view ranks k → T (strayAt old c k)
     stray-yes t q = taken t (q ∙ sym stray-is)

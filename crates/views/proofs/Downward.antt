@@ -2,7 +2,6 @@
 use Prim.Native.Nat.{ℕ, _+_, _-_, _%_, _^_, _≤_, _<_}
 use mathlib.Core.Path.{_≡_, refl, sym, ap, _∙_, subst}
 use mathlib.Core.Bool.{true, false, _||_}
-use mathlib.Core.Logic.{_↔_}
 use mathlib.Core.Option.{none}
 use mathlib.Core.List.{List}
 use native.Mathlib.Omega.{arith}
@@ -13,13 +12,13 @@ use lib.Bits.{bitAnd, and-comm}
 use lib.Pow.{pow-pos}
 use lib.ListN.{getD}
 use Rattle.search.proofs.Tests.{stable, true-T, T-false, false-T, same-test, or-left, or-right}
-use Rattle.sets.specs.Set.{Set, has, single, below, union, without, highest, lowest}
-use Rattle.sets.proofs.Laws.{has-none, has-large, has-below, below-has, has-lowest, has-highest, highest-most, single-only, single-has}
+use Rattle.sets.specs.Set.{Set, has, single, below, union, without, highest, lowest, width}
+use Rattle.sets.proofs.Laws.{has-none, has-large, has-below, below-has, has-lowest, has-highest, highest-most, single-only}
 use Rattle.sets.proofs.Algebra.{has-union, both-is, subset-is, same-sets, empty-is}
 use Rattle.sets.proofs.Words.{and-pred}
 use Rattle.dependencies.specs.History.{Holds}
 use Rattle.store.specs.Store.{Key, CommitNumber, View, Store, count, version}
-use Rattle.store.specs.Refusal.{halfHeld, wholeWriters}
+use Rattle.store.specs.Refusal.{halfHeld, wholeWriters, badMask}
 use Rattle.store.specs.History.{Wrote, history, held}
 use Rattle.store.proofs.Missing.{missing-none}
 use Rattle.store.proofs.Links.{holds-means}
@@ -52,7 +51,7 @@ downward m l e = go (decLt (m + 1) (2 ^ 64))
         let y : m + 1 ≡ single (lowest (m + 1)) = alone (m + 1) (omega arith) x (sym (and-pred (m + 1) (omega arith) x) ∙ z) in
         let q : m ≡ below (lowest (m + 1)) = omega arith in
         subst (λ (y : ℕ). Downward y) (sym q) (below-downward (lowest (m + 1)))
-    go (no x) = let q : m ≡ below 64 = omega arith in subst (λ (y : ℕ). Downward y) (sym q) (below-downward 64)
+    go (no x) = let q : m ≡ below width = omega arith in subst (λ (y : ℕ). Downward y) (sym q) (below-downward width)
 
 -- ---- the masks passed by a loop
 
@@ -73,7 +72,7 @@ no-gaps m e = eqb→eq m 0 (true-T _ e)
 -- ---- the writers of one key
 
 module _ (s : Store) (old u : View) (n : ℕ) (versions keys masks : List ℕ) (base : ℕ) (seen : Set) (fresh : List ℕ)
-    (m : NewMasks s old u n versions keys masks base seen fresh) where
+    (m : NewMasks s old u n versions keys masks base seen fresh) (good : badMask s u ≡ none) where
   -- t wrote a version of key k that the masks hold; that they lack
   abbrev pub HeldAt : Key → CommitNumber → Type 0
   HeldAt k t = (i : ℕ) × T (has (u k) i) × Wrote s t k i
@@ -89,10 +88,10 @@ module _ (s : Store) (old u : View) (n : ℕ) (versions keys masks : List ℕ) (
     below-keys = omega (arith, m .arrays .number)
 
     top-held : T (has (u k) (highest (u k)))
-    top-held = has-highest (u k) (let x : 2 ^ 0 ≤ u k = has-large (u k) 0 (mask-holds s u (m .good) k below-keys (m .fits .word k) .0) in omega (arith, pow-pos 0)) (m .fits .word k)
+    top-held = has-highest (u k) (let x : 2 ^ 0 ≤ u k = has-large (u k) 0 (mask-holds s u good k below-keys (m .fits .word k) .0) in omega (arith, pow-pos 0)) (m .fits .word k)
 
     top-there : highest (u k) < count s k
-    top-there = exist s old u n versions keys masks base seen fresh m k (highest (u k)) top-held
+    top-there = exist s old u n versions keys masks base seen fresh m good k (highest (u k)) top-held
 
     top-wrote : Wrote s w k (highest (u k))
     top-wrote = (top-there, sym (e ∙ ap (λ (j : ℕ). writerIn (getD versions (headPlace k j) 0)) (d ∙ ap highest mask) ∙ writer-in s old n versions keys masks base (m .arrays) k (highest (u k)) top-there))
@@ -130,7 +129,7 @@ module _ (s : Store) (old u : View) (n : ℕ) (versions keys masks : List ℕ) (
   -- ---- all keys together
 
   pub held-all : (h : Set) → IsSet h (λ t. (k : Key) × (k < n) × HeldAt k t) → IsSet h (Holds (history s) (held u))
-  held-all h = isSet-as h (λ t. (λ (k, _, (i, x, y)). (k, i, x, y), λ (k, i, x, y). (k, (let z : k < s .keys = key-of s old u n versions keys masks base seen fresh m k i x in omega (arith, m .arrays .number)), (i, x, y))))
+  held-all h = isSet-as h (λ t. (λ (k, _, (i, x, y)). (k, i, x, y), λ (k, i, x, y). (k, (let z : k < s .keys = key-of s old u n versions keys masks base seen fresh m good k i x in omega (arith, m .arrays .number)), (i, x, y))))
 
   pub lacked-all : (h : Set) → IsSet h (λ t. (k : Key) × (k < n) × LackedAt k t) → IsSet h (Lacks s u)
   lacked-all h = isSet-as h (λ t. (λ (k, _, x). (k, x), λ (k, (i, x, y)). (k, (let z : k < s .keys = m .arrays .sound .only-keys k i (y .0) in omega (arith, m .arrays .number)), (i, x, y))))

@@ -17,7 +17,7 @@ use Rattle.sets.proofs.Algebra.{both-is, without-is}
 use Rattle.dependencies.specs.History.{Holds}
 use Rattle.store.specs.Store.{Key, CommitNumber, View, Store, count, version}
 use Rattle.store.specs.Missing.{missing}
-use Rattle.store.specs.Refusal.{halfHeld, wholeWriters, allOf}
+use Rattle.store.specs.Refusal.{halfHeld, wholeWriters, allOf, badMask}
 use Rattle.store.specs.History.{Wrote, history, held}
 use Rattle.store.specs.Sound.{SoundStore}
 use Rattle.store.proofs.Missing.{missing-none}
@@ -33,10 +33,10 @@ use Rattle.views.proofs.Tests.{has-as}
 use Rattle.views.proofs.Codes.{mask-holds}
 use Rattle.views.proofs.Words.{writer-in}
 use Rattle.views.proofs.Rows.{masks-row}
-use Rattle.views.proofs.Agree.{missing-agree}
+use Rattle.views.proofs.Misses.{missing-agree}
 
 module _ (s : Store) (old u : View) (n : ℕ) (versions keys masks : List ℕ) (base : ℕ) (seen : Set) (fresh : List ℕ)
-    (m : NewMasks s old u n versions keys masks base seen fresh) where
+    (m : NewMasks s old u n versions keys masks base seen fresh) (good : badMask s u ≡ none) where
   abbrev sound : SoundStore s
   sound = m .arrays .sound
 
@@ -49,7 +49,7 @@ module _ (s : Store) (old u : View) (n : ℕ) (versions keys masks : List ℕ) (
       go (no q) = absurd (has-none i (has-as i (m .fits .beyond k (omega (arith, m .arrays .number))) t))
 
   pub exist : (k i : ℕ) → T (has (u k) i) → i < count s k
-  exist k i t = mask-holds s u (m .good) k (key-of k i t) (m .fits .word k) .1 i t
+  exist k i t = mask-holds s u good k (key-of k i t) (m .fits .word k) .1 i t
 
   -- the arrays keep the store and the new masks
   pub with-fresh : StoreAndView s u n versions keys fresh 0

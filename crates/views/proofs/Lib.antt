@@ -4,12 +4,11 @@ pub mod Looking
 pub mod Words
 pub mod Own
 pub mod Gathered
-pub mod Agree
+pub mod Misses
 pub mod Grown
 pub mod OpeningView
 pub mod AtOnce
 pub mod AddsOwn
 pub mod OwnView
-pub mod Written
 pub mod Rows
 pub mod Downward

@@ -2,6 +2,7 @@
 use Prim.Native.Nat.{ℕ, _+_, _^_, _≤_, _<_}
 use mathlib.Core.Path.{_≡_, sym, ap, _∙_, subst}
 use mathlib.Core.List.{List}
+use mathlib.Core.Option.{none}
 use native.Mathlib.Omega.{arith}
 use native.Mathlib.Decide.{decLt}
 use lib.Dec.{T, ltb, lt→ltb, ltb→lt, not-T, lit<}
@@ -11,12 +12,14 @@ use Rattle.search.proofs.Choose.{choose-yes, choose-no}
 use Rattle.sets.specs.Set.{Set, has}
 use Rattle.sets.proofs.Laws.{has-none, has-lt}
 use Rattle.dependencies.specs.History.{Holds}
+use Rattle.store.specs.Limits.{maxKeys}
 use Rattle.store.specs.Store.{View, Store, count, version}
 use Rattle.store.specs.History.{Wrote, history, held}
 use Rattle.store.specs.View.{IsView}
 use Rattle.store.specs.Sound.{SoundStore}
 use Rattle.growth.specs.Ordered.{Ordered}
 use Rattle.growth.proofs.Ordered.{opening-wrote-first}
+use Rattle.store.specs.Refusal.{badMask}
 use Rattle.state.specs.Keeps.{IsSet}
 use Rattle.views.specs.Viewed.{NewMasks}
 use Rattle.views.proofs.Tests.{has-as}
@@ -82,7 +85,7 @@ module _ (s : Store) (sound : SoundStore s) (o : Ordered s) where
 
 module _ (s : Store) (old u : View) (n : ℕ) (versions keys masks : List ℕ) (base : ℕ) (seen : Set) (fresh : List ℕ)
     (m : NewMasks s old u n versions keys masks base seen fresh) where
-  pub over-opening : 1 ≤ n → n ≤ 16 → NewMasks s (openingView (s .keys)) u n versions keys (replicate 16 1) 0 1 fresh
+  pub over-opening : 1 ≤ n → n ≤ maxKeys → NewMasks s (openingView (s .keys)) u n versions keys (replicate maxKeys 1) 0 1 fresh
   over-opening some few = record {
     arrays = record {
       number = m .arrays .number;
@@ -90,17 +93,16 @@ module _ (s : Store) (old u : View) (n : ℕ) (versions keys masks : List ℕ) (
       few = m .arrays .few;
       in-versions = m .arrays .in-versions;
       in-keys = m .arrays .in-keys;
-      in-masks = λ k l. getD-replicate 16 (0 + k) 1 0 (omega arith) ∙ sym (one-there (s .keys) k (omega (arith, m .arrays .number)));
+      in-masks = λ k l. getD-replicate maxKeys (0 + k) 1 0 (omega arith) ∙ sym (one-there (s .keys) k (omega (arith, m .arrays .number)));
     };
     ordered = m .ordered;
     view = opening-view s (m .arrays .sound) (m .ordered);
     seen-is = opening-holds s (m .arrays .sound) (m .ordered) (omega (arith, m .arrays .number));
     in-fresh = m .in-fresh;
     fits = m .fits;
-    good = m .good;
   }
 
-  pub opening-grows : (k i : ℕ) → T (has (openingView (s .keys) k) i) → T (has (u k) i)
-  opening-grows k i x =
+  pub opening-grows : badMask s u ≡ none → (k i : ℕ) → T (has (openingView (s .keys) k) i) → T (has (u k) i)
+  opening-grows good k i x =
       let z = only-zero (s .keys) k i x in
-      subst (λ (a : ℕ). T (has (u k) a)) (sym (z .1)) (mask-holds s u (m .good) k (z .0) (m .fits .word k) .0)
+      subst (λ (a : ℕ). T (has (u k) a)) (sym (z .1)) (mask-holds s u good k (z .0) (m .fits .word k) .0)

@@ -10,6 +10,7 @@ use Rattle.search.proofs.Tests.{eq-is}
 use Rattle.sets.specs.Set.{has, below, lowest, without}
 use Rattle.sets.proofs.Laws.{has-below, below-has, below-word, has-lowest, lowest-least, has-none}
 use Rattle.sets.proofs.Algebra.{without-is, without-word}
+use Rattle.store.specs.Limits.{perKey}
 use Rattle.store.specs.Store.{Key, View, Store, count, version, nextNumber, Commit}
 use Rattle.store.specs.Update.{writes, update}
 use Rattle.store.specs.Missing.{missing}
@@ -22,9 +23,9 @@ use Rattle.views.proofs.Tests.{has-as}
 
 -- ---- the least number that a full mask lacks
 
-module _ {all full free : ℕ} (e : all ≡ below 64) (f : free ≡ without all full) (n : ℕ) (l : n < 64) (q : full ≡ below n) where
+module _ {all full free : ℕ} (e : all ≡ below perKey) (f : free ≡ without all full) (n : ℕ) (l : n < perKey) (q : full ≡ below n) where
   next-free : T (has free n)
-  next-free = has-as n (sym f) (without-is all full n .1 (has-as n (sym e) (has-below 64 n l), λ h. not-below (below-has n n (has-as n q h))))
+  next-free = has-as n (sym f) (without-is all full n .1 (has-as n (sym e) (has-below perKey n l), λ h. not-below (below-has n n (has-as n q h))))
     where
       not-below : n < n → ⊥
       not-below x = omega arith
@@ -35,7 +36,7 @@ module _ {all full free : ℕ} (e : all ≡ below 64) (f : free ≡ without all 
   pub least-free : {v : ℕ} → v ≡ lowest free → v ≡ n
   least-free {v} low =
       let p : 0 < free = let z = some-free in omega arith in
-      let fits : all < 2 ^ 64 = rw e (below-word 64 (omega arith)) in
+      let fits : all < 2 ^ 64 = rw e (below-word perKey (omega arith)) in
       let word : free < 2 ^ 64 = rw f (without-word all full fits) in
       let m : lowest free ≤ n = lowest-least free p word n next-free in
       let out = without-is all full (lowest free) .0 (has-as (lowest free) f (has-lowest free p word)) .1 in

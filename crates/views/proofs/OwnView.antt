@@ -1,6 +1,6 @@
 -- A view after a commit that is the view before and the commit's own versions: clauses 1 and 2 miss nothing of it, codes 10, 11 and 14 are not due,
 -- and it holds the commits that were held and, where it writes something, the commit. Assumes nothing.
-use Prim.Native.Nat.{ℕ, _<_}
+use Prim.Native.Nat.{ℕ}
 use mathlib.Core.Path.{_≡_, refl, sym}
 use mathlib.Core.Bool.{not}
 use mathlib.Core.Logic.{_⊎_, inl, inr, _↔_}

@@ -1,9 +1,8 @@
 -- Tests as the code makes them. Assumes nothing.
 use Prim.Native.Nat.{ℕ}
-use mathlib.Core.Path.{_≡_, refl, sym, ap, _∙_, subst}
+use mathlib.Core.Path.{_≡_, sym, ap, _∙_, subst}
 use mathlib.Core.Bool.{Bool, true, false, true≢false, not}
 use lib.Dec.{T}
-use Rattle.search.specs.Choose.{isSome, when}
 use Rattle.search.proofs.Tests.{T-true, true-T}
 use Rattle.sets.specs.Set.{has}
 
@@ -28,9 +27,3 @@ not-left {r} e q = go r e q
 -- a set said otherwise
 pub has-as : {a b : ℕ} (i : ℕ) → a ≡ b → T (has a i) → T (has b i)
 has-as i e t = subst (λ (m : ℕ). T (has m i)) e t
-
--- an answer that there is where the test holds
-pub isSome-when : {A : Type 0} (b : Bool) (a : A) → isSome (when b a) ≡ b
-unfolding isSome when
-isSome-when true a = refl
-isSome-when false a = refl

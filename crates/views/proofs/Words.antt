@@ -1,7 +1,6 @@
 -- What the words in the arrays say: sets that have a number in common, and the writer in a head. Assumes nothing.
-use Prim.Native.Nat.{ℕ, _+_, _*_, _^_, _≤_, _<_, min}
+use Prim.Native.Nat.{ℕ, _+_, _*_, _^_, _≤_, _<_}
 use mathlib.Core.Path.{_≡_, refl, ap, _∙_}
-use mathlib.Core.Bool.{_&&_}
 use mathlib.Core.Logic.{_↔_, _≢_}
 use mathlib.Core.List.{List}
 use native.Mathlib.Omega.{arith}
@@ -9,7 +8,7 @@ use lib.Dec.{T, eqb}
 use lib.Bits.{bitAnd, and-le-l}
 use lib.ListN.{getD}
 use borrow.Author.Tests.{eq-eqb, ne-eqb}
-use Rattle.search.proofs.Tests.{same, and-is, not-is, eq-is}
+use Rattle.search.proofs.Tests.{not-is, eq-is}
 use Rattle.sets.specs.Set.{Set, has, lowest}
 use Rattle.sets.proofs.Laws.{has-lowest}
 use Rattle.sets.proofs.Algebra.{both-is, empty-is}

@@ -6,7 +6,7 @@ use mathlib.Core.List.{List}
 use Rattle.sets.specs.Set.{Set}
 use Rattle.dependencies.specs.History as D
 use Rattle.store.specs.Store.{View, Store}
-use Rattle.store.specs.Refusal.{badMask, halfHeld}
+use Rattle.store.specs.Refusal.{halfHeld}
 use Rattle.store.specs.View.{IsView, FitsView}
 use Rattle.store.specs.History.{history, held}
 use Rattle.growth.specs.Ordered.{Ordered}
@@ -19,7 +19,7 @@ abbrev pub ViewedAs : Store → View → Viewed → Type 0
 ViewedAs s u (Holds m) = (halfHeld s u ≡ none) × IsSet m (D.Holds (history s) (held u))
 ViewedAs s u (Half k v) = halfHeld s u ≡ some (record { key = k .0; version = v .0 })
 
--- masks u of a record over a view of the store, of which the arrays keep `old` at `base`, with the commits that it holds in `seen`; code 10 is not due
+-- masks u of a record over the view `old` of the store, which the arrays keep at `base`, with the commits that it holds in `seen`
 pub record NewMasks (s : Store) (old u : View) (n : ℕ) (versions keys masks : List ℕ) (base : ℕ) (seen : Set) (fresh : List ℕ) : Type 0 where
   pub arrays : StoreAndView s old n versions keys masks base
   pub ordered : Ordered s
@@ -27,4 +27,3 @@ pub record NewMasks (s : Store) (old u : View) (n : ℕ) (versions keys masks : 
   pub seen-is : IsSet seen (D.Holds (history s) (held old))
   pub in-fresh : KeepsMasks n u fresh
   pub fits : FitsView n u
-  pub good : badMask s u ≡ none

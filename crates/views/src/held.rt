@@ -4,25 +4,32 @@ use crate::masks;
 use crate::missing;
 use crate::prefix;
 ghost use mathlib.Core.Path.{_≡_};
+ghost use mathlib.Core.Option.{none};
 ghost use Prim.Native.Nat.{ℕ, _+_, _<_, _≤_};
 ghost use lib.Dec.{T};
 ghost use lib.ListN.{length};
 ghost use Rattle.sets.specs.Set.{has};
+ghost use Rattle.store.specs.Limits.{maxKeys};
 ghost use Rattle.store.specs.Store.{View, Store};
+ghost use Rattle.store.specs.Refusal.{badMask};
+ghost use Rattle.state.specs.Room.{VersionsRoom, KeysRoom, FreshRoom};
 ghost use Rattle.state.specs.Keeps.{IsSet};
 ghost use Rattle.views.specs.Gained.{WriterAmong, WriterBelow, Gains, LackingBelow};
 ghost use Rattle.views.specs.Viewed.{ViewedAs, NewMasks};
 
 // The writers of some versions of one key.
-fn writers_of(versions: &[u64], k: usize, set: u64) -> u64
-    requires { ⌜ (k < 16) × (length (now versions) ≡ 2048) ⌝ }
-    ensures { λ r. ⌜ IsSet r (WriterAmong (now (versions .entry)) k set) ⌝ }
+fn writers_of(versions: &[u64], k: state::Key, set: u64) -> u64
+    requires { ⌜ (k .0 < maxKeys) × VersionsRoom (now versions) ⌝ }
+    ensures { λ r. ⌜ IsSet r (WriterAmong (now (versions .entry)) (k .0) set) ⌝ }
 {
     let mut writers = 0u64;
     let mut left = set;
     while left != 0 {
         let v = sets::lowest(left);
-        writers = sets::insert(writers, state::writer_of(versions[crate::PER_KEY * k + v]));
+        writers = sets::insert(
+            writers,
+            state::writer_of(versions[state::PER_KEY * k.0 + v]).0,
+        );
         left = sets::rest(left);
     }
     writers
@@ -37,13 +44,17 @@ fn gained(
     gain: &mut [u64],
     n: usize,
 ) -> u64
-    requires { ⌜ (n ≤ 16) × (length (now versions) ≡ 2048) × (length (now fresh) ≡ 16) × (base + n ≤ length (now masks)) × (length (now gain) ≡ 16) ⌝ }
-    ensures { λ r. ⌜ (length (now (gain .exit)) ≡ 16) × Gains (now (versions .entry)) (now (fresh .entry)) (now (masks .entry)) base n (now (gain .exit)) r ⌝ }
+    requires { ⌜ (n ≤ maxKeys) × VersionsRoom (now versions) × FreshRoom (now fresh) × (base + n ≤ length (now masks)) × (length (now gain) ≡ maxKeys) ⌝ }
+    ensures { λ r. ⌜ (length (now (gain .exit)) ≡ maxKeys) × Gains (now (versions .entry)) (now (fresh .entry)) (now (masks .entry)) base n (now (gain .exit)) r ⌝ }
 {
     let mut all = 0u64;
     let mut k: usize = 0;
     while k < n {
-        let writers = writers_of(versions, k, sets::without(fresh[k], masks[base + k]));
+        let writers = writers_of(
+            versions,
+            state::Key(k),
+            sets::without(fresh[k], masks[base + k]),
+        );
         gain[k] = writers;
         all = sets::union(all, writers);
         k = k + 1;
@@ -53,13 +64,13 @@ fn gained(
 
 // The commits that wrote a version of a key and are not in the key's gain.
 fn lacking(keys: &[u64], gain: &[u64], n: usize) -> u64
-    requires { ⌜ (n ≤ 16) × (length (now keys) ≡ 32) × (length (now gain) ≡ 16) ⌝ }
+    requires { ⌜ (n ≤ maxKeys) × KeysRoom (now keys) × (length (now gain) ≡ maxKeys) ⌝ }
     ensures { λ r. ⌜ IsSet r (LackingBelow (now (keys .entry)) (now (gain .entry)) n) ⌝ }
 {
     let mut all = 0u64;
     let mut k: usize = 0;
     while k < n {
-        all = sets::union(all, sets::without(keys[crate::WRITERS + k], gain[k]));
+        all = sets::union(all, sets::without(keys[state::WRITERS + k], gain[k]));
         k = k + 1;
     }
     all
@@ -67,13 +78,13 @@ fn lacking(keys: &[u64], gain: &[u64], n: usize) -> u64
 
 // The commits that wrote something.
 pub fn all_writers(keys: &[u64], n: usize) -> u64
-    requires { ⌜ (n ≤ 16) × (length (now keys) ≡ 32) ⌝ }
+    requires { ⌜ (n ≤ maxKeys) × KeysRoom (now keys) ⌝ }
     ensures { λ r. ⌜ IsSet r (WriterBelow (now (keys .entry)) n) ⌝ }
 {
     let mut all = 0u64;
     let mut k: usize = 0;
     while k < n {
-        all = sets::union(all, keys[crate::WRITERS + k]);
+        all = sets::union(all, keys[state::WRITERS + k]);
         k = k + 1;
     }
     all
@@ -89,10 +100,10 @@ fn grown(
     seen: u64,
     n: usize,
 ) -> Viewed
-    requires { ⌜ (n ≤ 16) × (length (now versions) ≡ 2048) × (length (now keys) ≡ 32) × (length (now fresh) ≡ 16) × (base + n ≤ length (now masks)) ⌝ }
-    ensures { λ r. ⌜ ((s : Store) (old u : View) → NewMasks s old u n (now (versions .entry)) (now (keys .entry)) (now (masks .entry)) base seen (now (fresh .entry)) → ((k i : ℕ) → T (has (old k) i) → T (has (u k) i)) → ViewedAs s u r) ⌝ }
+    requires { ⌜ (n ≤ maxKeys) × VersionsRoom (now versions) × KeysRoom (now keys) × FreshRoom (now fresh) × (base + n ≤ length (now masks)) ⌝ }
+    ensures { λ r. ⌜ ((s : Store) (old u : View) → NewMasks s old u n (now (versions .entry)) (now (keys .entry)) (now (masks .entry)) base seen (now (fresh .entry)) → badMask s u ≡ none → ((k i : ℕ) → T (has (old k) i) → T (has (u k) i)) → ViewedAs s u r) ⌝ }
 {
-    let mut gain = [0u64; 16];
+    let mut gain = [0u64; store::Store::KEYS];
     let all = gained(versions, fresh, masks, base, &mut gain, n);
     let half = all & lacking(keys, &gain, n);
     let holds = sets::union(seen, all);
@@ -105,7 +116,7 @@ fn grown(
     }
 }
 
-// Code 11, and the commits of which the masks hold a version: by difference from the client's view at `base`, where the masks hold all of
+// Code 11, where code 10 is not due, and the commits of which the masks hold a version: by difference from the client's view at `base`, where the masks hold all of
 // it, and else from the opening view. Three common cases are answered at once: all versions that there are, the client's view itself,
 // and all versions of each key up to some.
 pub fn viewed(
@@ -117,8 +128,8 @@ pub fn viewed(
     seen: u64,
     n: usize,
 ) -> Viewed
-    requires { ⌜ (1 ≤ n) × (n ≤ 16) × (length (now versions) ≡ 2048) × (length (now keys) ≡ 32) × (length (now fresh) ≡ 16) × (base + n ≤ length (now views)) ⌝ }
-    ensures { λ r. ⌜ ((s : Store) (old u : View) → NewMasks s old u n (now (versions .entry)) (now (keys .entry)) (now (views .entry)) base seen (now (fresh .entry)) → ViewedAs s u r) ⌝ }
+    requires { ⌜ (1 ≤ n) × (n ≤ maxKeys) × VersionsRoom (now versions) × KeysRoom (now keys) × FreshRoom (now fresh) × (base + n ≤ length (now views)) ⌝ }
+    ensures { λ r. ⌜ ((s : Store) (old u : View) → NewMasks s old u n (now (versions .entry)) (now (keys .entry)) (now (views .entry)) base seen (now (fresh .entry)) → badMask s u ≡ none → ViewedAs s u r) ⌝ }
 {
     if masks::same(fresh, keys, 0, n) {
         return Viewed::Holds(all_writers(keys, n));
@@ -136,6 +147,6 @@ pub fn viewed(
     if let state::Found::Nothing = masks::lost(fresh, views, base, n) {
         return grown(versions, keys, fresh, views, base, seen, n);
     }
-    let opening = [1u64; 16];
+    let opening = [1u64; store::Store::KEYS];
     grown(versions, keys, fresh, &opening, 0, 1, n)
 }

@@ -3,14 +3,7 @@
 pub mod held;
 pub mod masks;
 pub mod missing;
-pub mod prefix;
-
-// Places of crates/state/specs/Places.antt: the versions of a key, the readers after the heads, the sets of writers after the full masks.
-const PER_KEY: usize = 64;
-
-const READERS: usize = 1024;
-
-const WRITERS: usize = 16;
+mod prefix;
 
 // The commits of which the masks hold a version; or the first version that they lack by a commit of which they hold another.
 pub enum Viewed {

@@ -6,12 +6,13 @@ ghost use lib.Dec.{T};
 ghost use lib.ListN.{length, getD};
 ghost use mathlib.Core.List.{List};
 ghost use Rattle.sets.specs.Set.{union};
-ghost use Rattle.store.specs.Limits.{maxCommits};
+ghost use Rattle.store.specs.Limits.{maxKeys, maxCommits};
 ghost use Rattle.store.specs.Store.{View, Store, Commit};
 ghost use Rattle.store.specs.Missing.{missing};
 ghost use Rattle.store.specs.Refusal.{badMask, allOf, stray};
 ghost use Rattle.store.specs.View.{IsView};
 ghost use Rattle.growth.specs.Made.{Made};
+ghost use Rattle.state.specs.Room.{KeysRoom, FreshRoom};
 ghost use Rattle.state.specs.Keeps.{KeepsKeys, KeepsMasks, KeepsOperations};
 ghost use Rattle.state.specs.Answers.{placeOf, keyOf};
 ghost use Rattle.state.specs.Rows.{RowAt};
@@ -21,7 +22,7 @@ ghost use Rattle.views.specs.Own.{AddsOwn, ownMask};
 
 // Code 10: the least key whose mask lacks version 0 or holds a version that does not exist.
 pub fn bad_mask(fresh: &[u64], keys: &[u64], n: usize) -> state::FoundKey
-    requires { ⌜ (n ≤ 16) × (length (now fresh) ≡ 16) × (length (now keys) ≡ 32) ⌝ }
+    requires { ⌜ (n ≤ maxKeys) × FreshRoom (now fresh) × KeysRoom (now keys) ⌝ }
     ensures { λ r. ⌜ ((s : Store) (u : View) → s .keys ≡ n → KeepsKeys s (now (keys .entry)) → KeepsMasks n u (now (fresh .entry)) → keyOf r ≡ badMask s u) ⌝ }
 {
     let mut k: usize = 0;
@@ -40,7 +41,7 @@ pub fn bad_mask(fresh: &[u64], keys: &[u64], n: usize) -> state::FoundKey
 
 // Code 12 and clause 1: the least version of the view at `base` that the masks lack.
 pub fn lost(fresh: &[u64], views: &[u64], base: usize, n: usize) -> state::Found
-    requires { ⌜ (n ≤ 16) × (length (now fresh) ≡ 16) × (base + n ≤ length (now views)) ⌝ }
+    requires { ⌜ (n ≤ maxKeys) × FreshRoom (now fresh) × (base + n ≤ length (now views)) ⌝ }
     ensures { λ r. ⌜ ((s : Store) (old u : View) → s .keys ≡ n → IsView s old → RowAt n (now (views .entry)) base old → KeepsMasks n u (now (fresh .entry)) → placeOf r ≡ missing s (allOf old) u) ⌝ }
 {
     let mut k: usize = 0;
@@ -55,27 +56,27 @@ pub fn lost(fresh: &[u64], views: &[u64], base: usize, n: usize) -> state::Found
 }
 
 // A mask that is not the view's, at a key without operation.
-fn strays(mask: u64, view: u64, ranks: u64, k: usize) -> bool
-    requires { ⌜ k < 16 ⌝ }
-    ensures { λ r. ⌜ r ≡ strays mask view ranks k ⌝ }
+fn strays(mask: u64, view: u64, ranks: u64, k: state::Key) -> bool
+    requires { ⌜ k .0 < maxKeys ⌝ }
+    ensures { λ r. ⌜ r ≡ strays mask view ranks (k .0) ⌝ }
 {
     if mask == view {
         return false;
     }
-    if sets::has(ranks, 2 * k) {
+    if sets::has(ranks, 2 * k.0) {
         return false;
     }
-    !sets::has(ranks, 2 * k + 1)
+    !sets::has(ranks, 2 * k.0 + 1)
 }
 
 // Code 14: the least key without operation where the masks are not the view at `base`.
 pub fn stray(fresh: &[u64], views: &[u64], base: usize, ranks: u64, n: usize) -> state::FoundKey
-    requires { ⌜ (n ≤ 16) × (length (now fresh) ≡ 16) × (base + n ≤ length (now views)) ⌝ }
+    requires { ⌜ (n ≤ maxKeys) × FreshRoom (now fresh) × (base + n ≤ length (now views)) ⌝ }
     ensures { λ r. ⌜ ((s : Store) (old : View) (c : Commit) (values : List ℕ) → s .keys ≡ n → RowAt n (now (views .entry)) base old → KeepsMasks n (c .viewAfter) (now (fresh .entry)) → KeepsOperations c ranks values → keyOf r ≡ stray s old c) ⌝ }
 {
     let mut k: usize = 0;
     while k < n {
-        if strays(fresh[k], views[base + k], ranks, k) {
+        if strays(fresh[k], views[base + k], ranks, state::Key(k)) {
             return state::FoundKey::AtKey(state::Key(k));
         }
         k = k + 1;
@@ -99,13 +100,17 @@ pub fn same(fresh: &[u64], masks: &[u64], base: usize, n: usize) -> bool
 }
 
 // Where a mask is not the view's with the version that is appended to key k; `full` is the key's mask before. The version's bit is one more than
-// that; the sum wraps only where there are 64 versions, which is so in no store with room for a commit.
-fn apart(mask: u64, view: u64, full: u64, ranks: u64, k: usize) -> u64
-    requires { ⌜ k < 16 ⌝ }
-    ensures { λ r. ⌜ (r ≡ 0) ↔ (mask ≡ union view (ownMask full ranks k)) ⌝ }
+// that; the sum wraps only where there are as many versions as a word has bits, which is so in no store with room for a commit.
+fn apart(mask: u64, view: u64, full: u64, ranks: u64, k: state::Key) -> u64
+    requires { ⌜ k .0 < maxKeys ⌝ }
+    ensures { λ r. ⌜ (r ≡ 0) ↔ (mask ≡ union view (ownMask full ranks (k .0))) ⌝ }
 {
     let next = std::num::wrapping_add_u64(full, 1);
-    let own = if sets::has(ranks, 2 * k + 1) { next } else { 0 };
+    let own = if sets::has(ranks, 2 * k.0 + 1) {
+        next
+    } else {
+        0
+    };
     mask ^ (view | own)
 }
 
@@ -119,13 +124,16 @@ pub fn adds_own(
     ranks: u64,
     n: usize,
 ) -> bool
-    requires { ⌜ (n ≤ 16) × (length (now fresh) ≡ 16) × (base + n ≤ length (now views)) × (length (now keys) ≡ 32) ⌝ }
+    requires { ⌜ (n ≤ maxKeys) × FreshRoom (now fresh) × (base + n ≤ length (now views)) × KeysRoom (now keys) ⌝ }
     ensures { λ r. ⌜ ((s : Store) (u : View) (c : Commit) (values : List ℕ) → Made s u c → s .commits < maxCommits → s .keys ≡ n → KeepsKeys s (now (keys .entry)) → RowAt n (now (views .entry)) base u → KeepsMasks n (c .viewAfter) (now (fresh .entry)) → KeepsOperations c ranks values → T r ↔ AddsOwn s u c) ⌝ }
 {
     let mut all = 0u64;
     let mut k: usize = 0;
     while k < n {
-        all = sets::union(all, apart(fresh[k], views[base + k], keys[k], ranks, k));
+        all = sets::union(
+            all,
+            apart(fresh[k], views[base + k], keys[k], ranks, state::Key(k)),
+        );
         k = k + 1;
     }
     all == 0

@@ -3,12 +3,16 @@
 // without a look at each version.
 ghost use mathlib.Core.Path.{_≡_};
 ghost use mathlib.Core.Bool.{true};
+ghost use mathlib.Core.Option.{none};
 ghost use mathlib.Core.List.{List};
 ghost use Prim.Native.Nat.{ℕ, _<_, _≤_};
 ghost use lib.ListN.{length};
 ghost use Rattle.dependencies.specs.History.{Holds};
+ghost use Rattle.store.specs.Limits.{maxKeys};
 ghost use Rattle.store.specs.Store.{View, Store};
 ghost use Rattle.store.specs.History.{history, held};
+ghost use Rattle.store.specs.Refusal.{badMask};
+ghost use Rattle.state.specs.Room.{VersionsRoom, KeysRoom, FreshRoom};
 ghost use Rattle.state.specs.Keeps.{IsSet};
 ghost use Rattle.views.specs.Viewed.{NewMasks};
 ghost use Rattle.views.specs.Prefix.{Downward, Prefixes, Lacks};
@@ -43,18 +47,18 @@ pub struct Parts {
 // The commits of which the masks hold a version, and those of which they lack one: at each key the writers up to that of the newest
 // version in the mask, and those above it.
 pub fn split(versions: &[u64], keys: &[u64], fresh: &[u64], n: usize) -> Parts
-    requires { ⌜ (n ≤ 16) × (length (now versions) ≡ 2048) × (length (now keys) ≡ 32) × (length (now fresh) ≡ 16) ⌝ }
+    requires { ⌜ (n ≤ maxKeys) × VersionsRoom (now versions) × KeysRoom (now keys) × FreshRoom (now fresh) ⌝ }
     ensures { λ r. ⌜ ((s : Store) (old u : View) (masks : List ℕ) (base seen : ℕ)
-        → NewMasks s old u n (now (versions .entry)) (now (keys .entry)) masks base seen (now (fresh .entry)) → Prefixes (now (fresh .entry)) n
+        → NewMasks s old u n (now (versions .entry)) (now (keys .entry)) masks base seen (now (fresh .entry)) → badMask s u ≡ none → Prefixes (now (fresh .entry)) n
         → IsSet (r .held) (Holds (history s) (held u)) × IsSet (r .lacking) (Lacks s u)) ⌝ }
 {
     let mut held = 0u64;
     let mut lacking = 0u64;
     let mut k: usize = 0;
     while k < n {
-        let writer = state::writer_of(versions[crate::PER_KEY * k + state::newest(fresh[k])]);
-        let writers = keys[crate::WRITERS + k];
-        let later = sets::without(writers, sets::up_to(writer));
+        let writer = state::writer_of(versions[state::PER_KEY * k + state::newest(fresh[k]).0]);
+        let writers = keys[state::WRITERS + k];
+        let later = sets::without(writers, sets::up_to(writer.0));
         held = sets::union(held, sets::without(writers, later));
         lacking = sets::union(lacking, later);
         k = k + 1;

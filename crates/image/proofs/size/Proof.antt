@@ -5,13 +5,14 @@ use native.Mathlib.Omega.{arith}
 use native.Mathlib.Numerals.{add-one}
 use borrow.Author.Needs.{needs}
 use denote.Ref.{now}
+use Rattle.store.specs.Limits.{maxCommits, perKey}
 use Rattle.image.specs.Parts.{keysSize}
 use Rattle.image.proofs.Sizes.{keysSize-suc, length-whole}
 use Rattle.image.proofs.size.Statement.{statement}
 use Rattle.image.proofs.size.Tie as tie
 
 abbrev Inv-loop : tie.InvT-loop
-Inv-loop keys n count sum₀ k₀ sum k = (k ≤ n) × (sum ≡ 8 + 8 * count + keysSize keys k) × (sum ≤ 512 + 1028 * k)
+Inv-loop keys n count sum₀ k₀ sum k = (k ≤ n) × (sum ≡ 8 + 8 * count + keysSize keys k) × (sum ≤ 8 + 8 * maxCommits + (4 + 16 * perKey) * k)
 
 abbrev μ-loop : tie.MeasureT-loop
 μ-loop keys n count sum₀ k₀ sum k = n - k
@@ -26,14 +27,14 @@ loop-holds : tie.Need-loop-holds Inv-loop μ-loop
 unfolding keysSize
 loop-holds c = (omega arith, omega arith, omega arith)
 
-mul-version-count : tie.Need-mul-version-count Inv-loop μ-loop
-mul-version-count c = search needs
+mul-size : tie.Need-mul-size Inv-loop μ-loop
+mul-size c = search needs
 
-shared-slice-read-version-count : tie.Need-shared-slice-read-version-count Inv-loop μ-loop
-shared-slice-read-version-count c = search needs
+shared-slice-read-size : tie.Need-shared-slice-read-size Inv-loop μ-loop
+shared-slice-read-size c = search needs
 
-version-count-requires : tie.Need-version-count-requires Inv-loop μ-loop
-version-count-requires c κs = search needs
+size-requires : tie.Need-size-requires Inv-loop μ-loop
+size-requires c κs = search needs
 
 mul-sum-2 : tie.Need-mul-sum-2 Inv-loop μ-loop
 mul-sum-2 c = search needs
@@ -75,9 +76,9 @@ size-spec =
     mul-sum
     add-sum
     loop-holds
-    mul-version-count
-    shared-slice-read-version-count
-    version-count-requires
+    mul-size
+    shared-slice-read-size
+    size-requires
     mul-sum-2
     add-sum-2
     add-sum-3

@@ -8,9 +8,8 @@ use denote.Ref.{now}
 use Rattle.endian.specs.Endian.{putAt, pieces}
 use Rattle.endian.proofs.Put.{put-none, put-piece}
 use Rattle.store.specs.Store.{Store}
-use Rattle.store.specs.Image.{commitBytes}
+use Rattle.store.specs.Image.{commitBytes, ClientsFit}
 use Rattle.state.specs.Keeps.{KeepsCommits}
-use Rattle.image.specs.Parts.{ClientsFit}
 use Rattle.image.proofs.Words.{commit-kept}
 use Rattle.image.proofs.Sizes.{length-commits}
 use Rattle.image.proofs.write_commits.Statement.{statement}

@@ -23,7 +23,7 @@ use Rattle.image.proofs.write_key.Tie as tie
 abbrev Inv-loop : tie.InvT-loop
 Inv-loop part₀ versions k n i₀ part i =
     (i ≤ n) × (length part ≡ length part₀)
-    × ((s : Store) → KeepsVersions s versions → SoundStore s → s .commits ≤ maxCommits → count s k ≡ n → part ≡ putAt part₀ 4 (pieces i (λ j. versionBytes (version s k j))))
+    × ((s : Store) → KeepsVersions s versions → SoundStore s → s .commits ≤ maxCommits → count s (k .0) ≡ n → part ≡ putAt part₀ 4 (pieces i (λ j. versionBytes (version s (k .0) j))))
 
 abbrev μ-loop : tie.MeasureT-loop
 μ-loop part₀ versions k n i₀ part i = n - i
@@ -82,13 +82,15 @@ loop-less c = search needs
 
 loop-again : tie.Need-loop-again Inv-loop μ-loop
 loop-again c =
-    let l = c .before .before .before .before .before .before .before .before .before .before .before in
-    let a = c .before .before .before .before .before .before .before .before .before .before .before .before .before .before .before .before .before .before .args in
-    let p = c .before .before .before .before .before .before .before .before .before .before .before .before .before .before .put-u32 .last .0 in
+    let turn = c .before .before .before .before .before .before .before .before .before .before .before in
+    let l = turn .before in
+    let first = l .before .before .before in
+    let a = first .before .before .before .before .args in
+    let p = first .put-u32 .last .0 in
     let vs = now (a .versions) in
     let i = l .loop .i in
-    let head = leBytes 8 (getD vs (headPlace (a .k) i) 0) in
-    let readers = leBytes 8 (getD vs (readersPlace (a .k) i) 0) in
+    let head = leBytes 8 (getD vs (headPlace (a .k .0) i) 0) in
+    let readers = leBytes 8 (getD vs (readersPlace (a .k .0) i) 0) in
     let to = 4 + 16 * i in
     let both =
     put-next (l .loop .part) to 8 (to + 8) head readers (c .before .before .before .before .before .before .before .put-u64 .ensures) (length-leBytes 8 _) refl (omega arith)
@@ -96,8 +98,8 @@ loop-again c =
       omega arith,
       omega arith,
       λ s kept sound few e.
-          put-piece p 4 i (16 * i) (λ j. versionBytes (version s (a .k) j)) (l .loop .inv .2 s kept sound few e) (length-versions s (a .k) i) (omega arith)
-          both (version-kept s vs (a .k) i kept sound few (omega arith)),
+          put-piece p 4 i (16 * i) (λ j. versionBytes (version s (a .k .0) j)) (l .loop .inv .2 s kept sound few e) (length-versions s (a .k .0) i) (omega arith)
+          both (version-kept s vs (a .k .0) i kept sound few (omega (arith, turn .loop-test .taken))),
     )
 
 mul-result : tie.Need-mul-result Inv-loop μ-loop
@@ -113,13 +115,14 @@ returns : tie.Need-returns Inv-loop μ-loop
 unfolding keyBytes
 returns c =
     let l = c .before in
-    let a = c .before .before .before .before .before .before .before .before .args in
+    let first = l .before .before .before in
+    let a = first .before .before .before .before .args in
     let d = now (a .part) in
-    let p = c .before .before .before .before .put-u32 .last .0 in
+    let p = first .put-u32 .last .0 in
     let all : l .loop .i ≡ a .n = omega arith in (
       refl,
       λ s kept sound few e.
-          let f : ℕ → List ℕ = λ j. versionBytes (version s (a .k) j) in
+          let f : ℕ → List ℕ = λ j. versionBytes (version s (a .k .0) j) in
           put-next d 0 4 4 (leBytes 4 (a .n)) (pieces (a .n) f) (c .before .before .before .before .put-u32 .ensures) (length-leBytes 4 (a .n)) refl (omega arith)
           (l .loop .inv .2 s kept sound few e ∙ ap (λ j. putAt p 4 (pieces j f)) all)
           ∙ ap (λ m. putAt d 0 (leBytes 4 m ++ pieces m f)) (sym e),

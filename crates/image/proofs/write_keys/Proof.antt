@@ -3,10 +3,10 @@ use Prim.Native.Nat.{_+_, _*_, _-_, _≤_, _<_}
 use mathlib.Core.Path.{_≡_, refl, sym, ap, _∙_}
 use native.Mathlib.Omega.{arith}
 use native.Mathlib.Numerals.{add-one}
-use lib.Count.{ones}
 use lib.ListN.{length, getD}
 use borrow.Author.Needs.{needs}
 use denote.Ref.{now}
+use Rattle.sets.specs.Set.{size}
 use Rattle.endian.specs.Endian.{putAt, pieces}
 use Rattle.endian.proofs.Put.{put-none, put-lent}
 use Rattle.store.specs.Limits.{maxCommits}
@@ -34,7 +34,7 @@ loop-holds c = (omega arith, omega arith, refl, λ s kv kk sound few e. put-none
 
 -- the next key has its bytes within the buffer
 within : (c : tie.In-loop Inv-loop μ-loop)
-    → c .before .loop .at + (4 + 16 * ones (getD (now (c .before .before .before .before .before .args .keys)) (c .before .loop .k) 0)) ≤ length (c .before .loop .buffer)
+    → c .before .loop .at + (4 + 16 * size (getD (now (c .before .before .before .before .before .args .keys)) (c .before .loop .k) 0)) ≤ length (c .before .loop .buffer)
 within c =
     let a = c .before .before .before .before .before .args in
     omega (arith, key-within (now (a .keys)) (c .before .loop .k) (a .n) (c .loop-test .taken))
@@ -48,14 +48,14 @@ part-write-key-start c = omega (arith, within c)
 part-write-key-end : tie.Need-part-write-key-end Inv-loop μ-loop
 part-write-key-end c = search needs
 
-mul-version-count : tie.Need-mul-version-count Inv-loop μ-loop
-mul-version-count c = search needs
+mul-size : tie.Need-mul-size Inv-loop μ-loop
+mul-size c = search needs
 
-shared-slice-read-version-count : tie.Need-shared-slice-read-version-count Inv-loop μ-loop
-shared-slice-read-version-count c = search needs
+shared-slice-read-size : tie.Need-shared-slice-read-size Inv-loop μ-loop
+shared-slice-read-size c = search needs
 
-version-count-requires : tie.Need-version-count-requires Inv-loop μ-loop
-version-count-requires c κs = search needs
+size-requires : tie.Need-size-requires Inv-loop μ-loop
+size-requires c κs = search needs
 
 write-key-requires : tie.Need-write-key-requires Inv-loop μ-loop
 write-key-requires c κs = omega (arith, within (c .before .before .before))
@@ -73,7 +73,7 @@ loop-again : tie.Need-loop-again Inv-loop μ-loop
 loop-again c =
     let l = c .before .before .before .before .before .before .before in
     let a = c .before .before .before .before .before .before .before .before .before .before .before .args in
-    let versions-of = c .before .before .before .version-count in
+    let versions-of = c .before .before .before .size in
     let keys = now (a .keys) in
     let k = l .loop .k in
     let room = within (c .before .before .before .before .before .before) in (
@@ -82,7 +82,7 @@ loop-again c =
       omega arith,
       λ s kv kk sound few e.
           let here : k < s .keys = omega arith in
-          let all : ones (getD keys k 0) ≡ count s k = full-count (getD keys k 0) (count s k) (kk .full k here) in
+          let all : size (getD keys k 0) ≡ count s k = full-count (getD keys k 0) (count s k) (kk .full k here) in
           let long = length-key s k in
           put-lent (now (a .buffer)) (a .start) k (keysSize keys k) (l .loop .at) (keyBytes s) (l .loop .inv .3 s kv kk sound few e)
           (length-keys s keys kk k (omega arith)) (l .loop .inv .1) (omega arith) (omega arith)
@@ -109,9 +109,9 @@ write-keys-spec =
     sub-write-key
     part-write-key-start
     part-write-key-end
-    mul-version-count
-    shared-slice-read-version-count
-    version-count-requires
+    mul-size
+    shared-slice-read-size
+    size-requires
     write-key-requires
     add-at
     add-k

@@ -1,50 +1,94 @@
 -- `judging::judge` meets its contract: nothing is asked of the bytes of a file. Assumes nothing.
-use mathlib.Core.Path.{sym}
 use denote.Ref.{now}
 use Rattle.endian.specs.Endian.{Bytes}
 use Rattle.answer.proofs.Demand3.{demand3}
-use Rattle.judging.proofs.InForm.{whole-length, whole-of, misshapen-said}
+use Rattle.taking.proofs.Cases.{says-refused, says-taken}
+use Rattle.judging.proofs.Answered.{refused-answer}
 use borrow.Author.Needs.{needs}
 use Rattle.judging.proofs.judge.Statement.{statement}
 use Rattle.judging.proofs.judge.Tie as tie
 
-form-of-requires : tie.Need-form-of-requires
-form-of-requires c κs = search needs
+-- ---- the ways back to the call of `take_file`, and from there to the start
 
-enum-known-code : tie.Need-enum-known-code
-enum-known-code c = search needs
+abbrev refused : tie.After-known-told → tie.After-take-file
+refused c = c .before .before .before .before .before .before
 
-enum-known-h : tie.Need-enum-known-h
-enum-known-h c = search needs
+abbrev lent : tie.After-commits4 → tie.After-take-file
+lent c = c .before .before .before .before .before .before .before .before .before .before
 
-meaning-requires : tie.Need-meaning-requires
-meaning-requires c κs =
-    let b : Bytes (now (c .before .before .before .before .before .before .before .args .file)) = λ i. c .before .before .before .before .before .before .shared-slice-known .given i .fits in
-    let w = whole-of (c .before .before .before .before .form-of .ensures) (c .before .before .h .given .1) in
-    (w, whole-length b w)
+abbrev begun : tie.After-take-file → tie.Start
+begun c = c .before .before .before .before .before .before .before .before .before .before
+
+-- the bytes of the file are bytes
+bytes : (c : tie.After-take-file) → Bytes (now (begun c .args .file))
+bytes c i = c .before .before .before .before .before .before .before .before .before .shared-slice-known .given i .fits
+
+opening-requires : tie.Need-opening-requires
+opening-requires c κs = search needs
+
+slice-aggregate-take-file : tie.Need-slice-aggregate-take-file
+slice-aggregate-take-file c = search needs
+
+slice-aggregate-take-file-2 : tie.Need-slice-aggregate-take-file-2
+slice-aggregate-take-file-2 c = search needs
+
+slice-aggregate-take-file-3 : tie.Need-slice-aggregate-take-file-3
+slice-aggregate-take-file-3 c = search needs
+
+take-file-requires : tie.Need-take-file-requires
+take-file-requires c κs = search needs
+
+enum-known-refusal : tie.Need-enum-known-refusal
+enum-known-refusal c = search needs
+
+enum-known-n : tie.Need-enum-known-n
+enum-known-n c = search needs
+
+slice-aggregate-finish : tie.Need-slice-aggregate-finish
+slice-aggregate-finish c = search needs
+
+slice-aggregate-finish-2 : tie.Need-slice-aggregate-finish-2
+slice-aggregate-finish-2 c = search needs
+
+slice-aggregate-finish-3 : tie.Need-slice-aggregate-finish-3
+slice-aggregate-finish-3 c = search needs
+
+finish-requires : tie.Need-finish-requires
+finish-requires c κs =
+    let h = says-taken _ _ _ _ (lent c .take-file .ensures) (c .before .before .before .before .before .n .given .1) .1 in
+    (h .in-versions .room, h .in-keys .room, h .in-commits .room, h .few-keys, h .few-commits)
 
 returns : tie.Need-returns
 returns c =
-    let start = c .before .before .before .before .before .before in
-    let a = misshapen-said (now (start .args .buffer)) (c .before .before .before .form-of .ensures) (c .before .code .given .1) in
-    (sym (a .said), (sym (a .drawn), demand3 _ (λ i. c .before .before .before .before .before .shared-slice-known .given i .fits)))
+    let at = refused c in
+    let a = refused-answer _ (now (begun at .args .buffer)) _ (says-refused _ _ _ _ (at .take-file .ensures) (c .before .refusal .given .1)) in
+    (a .said, (a .drawn, demand3 _ (bytes at)))
 
 same-length : tie.Need-same-length
 same-length c = search needs
 
 returns-2 : tie.Need-returns-2
 returns-2 c =
-    let m = c .before .before .meaning .ensures in
-    (m .0, (m .1, demand3 _ (λ i. c .before .before .before .before .before .before .before .before .before .shared-slice-known .given i .fits)))
+    let ended = c .before .before in
+    let h = says-taken _ _ _ _ (lent (ended .before) .take-file .ensures) (ended .before .before .before .before .before .before .n .given .1) in
+    let a = ended .finish .ensures _ (h .0) (h .1) in
+    (a .0, (a .1, demand3 _ (bytes (lent (ended .before)))))
 
 pub judge-spec : {M : Type 1} → statement M
 judge-spec =
     tie.close
     (tie.spec
-    form-of-requires
-    enum-known-code
-    enum-known-h
-    meaning-requires
+    opening-requires
+    slice-aggregate-take-file
+    slice-aggregate-take-file-2
+    slice-aggregate-take-file-3
+    take-file-requires
+    enum-known-refusal
+    enum-known-n
+    slice-aggregate-finish
+    slice-aggregate-finish-2
+    slice-aggregate-finish-3
+    finish-requires
     returns
     same-length
     returns-2)

@@ -41,22 +41,26 @@ same-length-5 c = search needs
 
 returns : tie.Need-returns
 returns c =
-    let b = c .before .before .before .before .before .before .before .before .before .before .before .before .before .before .before .before .before .before .before .before .before .before .before .before .before .before .before in
-    let a = b .args in
+    let settling = c .before .before .before .before in
+    let adding = settling .before .before .before .before .before in
+    let performing = adding .before .before .before .before .before .before in
+    let looking = performing .before .before .before in
+    let entry = looking .before .before .before .before .before .before .before .before .before in
+    let a = entry .args in
     λ s u k g number session in-commits in-links.
     let given = as-given s u k (a .versions .now) (a .keys .now) (a .views .now) (a .sessions .now) (a .values .now) (a .client) (a .ranks) (a .n) g in
-    let performed = c .before .before .before .before .before .before .before .before .before .before .before .before .before .before .before .perform .ensures .0 s u k given (g .in-keys) (sym number) in
-    let linked = c .before .before .before .before .before .before .before .before .before .before .before .before .before .before .before .perform .ensures .1 s u k given (g .in-keys) (g .ordered) in
-    let before = subst (λ (m : ℕ). IsSet m (FromSession s k)) (sym (c .before .before .before .before .before .before .before .before .before .before .before .before .before .before .before .before .before .before .before-of .ensures))
-    (led-before s u k (a .versions .now) (a .keys .now) (a .views .now) (a .sessions .now) (a .values .now) (a .client) (a .ranks) (a .n) g (b .pre .0 .1) (b .fits .ranks .fits)) in
-    let busy = operates-is k (a .ranks) (a .values .now) (g .operations) (b .fits .ranks .fits) in
-    let settled = c .before .before .before .before .settle .ensures in
+    let performed = performing .perform .ensures .0 s u k given (g .in-keys) (sym number) in
+    let linked = performing .perform .ensures .1 s u k given (g .in-keys) (g .ordered) in
+    let before = subst (λ (m : ℕ). IsSet m (FromSession s k)) (sym (looking .before-of .ensures))
+    (led-before s u k (a .versions .now) (a .keys .now) (a .views .now) (a .sessions .now) (a .values .now) (a .client) (a .ranks) (a .n) g (entry .pre .0 .1) (entry .fits .ranks .fits)) in
+    let busy = operates-is k (a .ranks) (a .values .now) (g .operations) (entry .fits .ranks .fits) in
+    let settled = settling .settle .ensures in
     record {
       in-versions = performed .0;
       in-keys = performed .1;
       in-sessions = settled .0 s u k (g .made) number (g .client-is) session busy (linked .0) (g .in-sessions);
       in-commits = settled .1 s u k (g .made) number (g .client-is) session busy (linked .0) (g .in-sessions) in-commits;
-      in-links = c .before .before .before .before .before .before .before .before .before .add .ensures s u k (a .values .now) (g .made) number (g .keys-are) (g .operations) before (linked .0) (linked .1) (linked .2) in-links;
+      in-links = adding .add .ensures s u k (a .values .now) (g .made) number (g .keys-are) (g .operations) before (linked .0) (linked .1) (linked .2) in-links;
     }
 
 pub make-spec : {M : Type 1} → statement M

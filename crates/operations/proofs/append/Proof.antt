@@ -1,10 +1,10 @@
 -- `operations::append` meets its contract. The keys passed have their new versions, the others are as before, and the set is that of the keys passed. Assumes nothing.
 use borrow.Author.Needs.{needs}
-use Prim.Native.Nat.{ℕ, _+_, _/_, _≤_}
-use mathlib.Core.Path.{_≡_, ap}
+use Prim.Native.Nat.{ℕ, _+_, _/_, _≤_, _<_}
+use mathlib.Core.Path.{ap}
 use native.Mathlib.Omega.{arith}
-use lib.ListN.{length}
 use Rattle.store.specs.Store.{Store, Commit}
+use Rattle.state.specs.Room.{VersionsRoom, KeysRoom}
 use Rattle.state.specs.Keeps.{IsSet}
 use Rattle.state.specs.Accesses.{Left}
 use Rattle.state.proofs.Accesses.{left-rest, turn-below}
@@ -17,8 +17,8 @@ use Rattle.operations.proofs.append.Tie as tie
 
 abbrev Inv-loop : tie.InvT-loop
 Inv-loop versions₀ keys₀ values ranks n me earlier₀ left₀ versions keys earlier left =
-    (k : ℕ) × (k ≤ n) × Left ranks 1 n k left × (length versions ≡ 2048) × (length keys ≡ 32)
-    × ((s : Store) (c : Commit) → Appending s c versions₀ keys₀ values ranks n → WritesPassed s c me n k versions keys × IsSet earlier (From (writtenAt s c) k))
+    (k : ℕ) × (k ≤ n) × Left ranks 1 n k left × VersionsRoom versions × KeysRoom keys
+    × ((s : Store) (c : Commit) → Appending s c versions₀ keys₀ values ranks n → WritesPassed s c (me .0) n k versions keys × IsSet earlier (From (writtenAt s c) k))
 
 abbrev μ-loop : tie.MeasureT-loop
 μ-loop versions₀ keys₀ values ranks n me earlier₀ left₀ versions keys earlier left = left
@@ -32,6 +32,10 @@ loop-holds c = (0, omega arith, c .keys-with .ensures, omega arith, omega arith,
 lowest-requires : tie.Need-lowest-requires Inv-loop μ-loop
 lowest-requires c κs = search needs
 
+-- the key of the turn is one of the n keys
+turn : (c : tie.After-lowest Inv-loop μ-loop) → c .lowest .result / 2 < c .before .before .before .before .before .before .before .args .n
+turn c = turn-below (c .before .before .loop .inv .2) (omega arith) (c .lowest .ensures .0)
+
 add-union : tie.Need-add-union Inv-loop μ-loop
 add-union c = search needs
 
@@ -39,7 +43,7 @@ mul-union : tie.Need-mul-union Inv-loop μ-loop
 mul-union c = search needs
 
 slice-read-union : tie.Need-slice-read-union Inv-loop μ-loop
-slice-read-union c = let l = turn-below (c .before .before .before .loop .inv .2) (omega arith) (c .before .lowest .ensures .0) in omega (arith, l)
+slice-read-union c = omega (arith, turn (c .before))
 
 union-requires : tie.Need-union-requires Inv-loop μ-loop
 union-requires c κs = search needs
@@ -54,10 +58,10 @@ mul-append-at-2 : tie.Need-mul-append-at-2 Inv-loop μ-loop
 mul-append-at-2 c = search needs
 
 shared-slice-read-append-at : tie.Need-shared-slice-read-append-at Inv-loop μ-loop
-shared-slice-read-append-at c = let l = turn-below (c .before .before .before .before .before .before .before .loop .inv .2) (omega arith) (c .before .before .before .before .before .lowest .ensures .0) in omega (arith, l)
+shared-slice-read-append-at c = omega (arith, turn (c .before .before .before .before .before))
 
 append-at-requires : tie.Need-append-at-requires Inv-loop μ-loop
-append-at-requires c κs = let l = turn-below (c .before .before .before .before .before .before .before .loop .inv .2) (omega arith) (c .before .before .before .before .before .lowest .ensures .0) in (search needs, search needs, omega (arith, l), search needs)
+append-at-requires c κs = (search needs, search needs, omega (arith, turn (c .before .before .before .before .before)), search needs)
 
 rest-requires : tie.Need-rest-requires Inv-loop μ-loop
 rest-requires c κs = search needs
@@ -67,17 +71,19 @@ loop-less c = search needs
 
 loop-again : tie.Need-loop-again Inv-loop μ-loop
 loop-again c =
-    let (k, small, h, room, room′, p) = c .before .before .before .before .before .before .before .before .before .before .before .before .before .loop .inv in
-    let q = ap (λ (x : ℕ). x / 2) (c .before .before .before .before .before .before .before .before .before .before .before .lowest .ensures .0) in
-    let l = turn-below h (omega arith) (c .before .before .before .before .before .before .before .before .before .before .before .lowest .ensures .0) in (
-      c .before .before .before .before .before .before .before .before .before .before .before .lowest .result / 2 + 1,
-      omega (arith, l),
+    let appending = c .before .before .before .before .before in
+    let joining = appending .before .before .before .before in
+    let looking = joining .before .before in
+    let (k, small, h, room, room′, p) = looking .before .before .loop .inv in
+    let q = ap (λ (x : ℕ). x / 2) (looking .lowest .ensures .0) in (
+      looking .lowest .result / 2 + 1,
+      omega (arith, turn looking),
       left-rest h (omega arith) q (c .rest .ensures .0),
       omega arith,
       omega arith,
       λ s d g. (
-        write-appended g _ h (omega arith) (omega arith) q _ _ (p s d g .0) (c .before .before .before .before .before .append-at .ensures .0) (c .before .before .before .before .before .append-at .ensures .1),
-        earlier-turn g _ h (omega arith) (omega arith) q _ _ (p s d g .0) _ (p s d g .1) (c .before .before .before .before .before .before .before .before .before .union .ensures),
+        write-appended g _ h (omega arith) (omega arith) q _ _ (p s d g .0) (appending .append-at .ensures .0) (appending .append-at .ensures .1),
+        earlier-turn g _ h (omega arith) (omega arith) q _ _ (p s d g .0) _ (p s d g .1) (joining .union .ensures),
       ),
     )
 

@@ -39,8 +39,8 @@ same-length-2 c = search needs
 
 returns : tie.Need-returns
 returns c = (
-  c .before .before .before .before .before .before .put-version .ensures ∙ rw (c .before .before .before .before .before .before .before .before .before .newest .ensures .0, c .before .before .before .before .before .before .before .before .before .before .wrapping-add-u64 .ensures, c .before .before .before .before .before .before .before .head-of .ensures) refl,
-  c .before .before .grow-key .ensures ∙ rw (c .before .before .before .before .before .before .before .before .before .before .wrapping-add-u64 .ensures) refl,
+  c .before .before .before .before .before .before .put-version .ensures ∙ rw (c .before .before .before .before .before .before .before .before .before .before .newest .ensures .0, c .before .before .before .before .before .before .before .before .before .before .before .wrapping-add-u64 .ensures, c .before .before .before .before .before .before .before .head-of .ensures) refl,
+  c .before .before .grow-key .ensures ∙ rw (c .before .before .before .before .before .before .before .before .before .before .before .wrapping-add-u64 .ensures) refl,
 )
 
 pub append-at-spec : {M : Type 1} → statement M

@@ -19,7 +19,7 @@ shared-slice-read-result : tie.Need-shared-slice-read-result
 shared-slice-read-result c = search needs
 
 returns : tie.Need-returns
-returns c = rw (c .before .seen .ensures .0)
+returns c = rw (c .before .before .seen .ensures .0)
 
 pub head-seen-spec : {M : Type 1} → statement M
 head-seen-spec =

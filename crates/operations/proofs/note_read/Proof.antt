@@ -35,7 +35,7 @@ same-length : tie.Need-same-length
 same-length c = search needs
 
 returns : tie.Need-returns
-returns c = rw (c .insert .ensures, c .before .before .seen .ensures .0) refl
+returns c = rw (c .insert .ensures, c .before .before .before .seen .ensures .0) refl
 
 pub note-read-spec : {M : Type 1} → statement M
 note-read-spec =

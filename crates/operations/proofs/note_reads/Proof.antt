@@ -1,12 +1,12 @@
 -- `operations::note_reads` meets its contract. The keys passed have their reads noted, the others are as before, and the sets are those of the keys passed. Assumes nothing.
 use borrow.Author.Needs.{needs}
-use Prim.Native.Nat.{ℕ, _+_, _/_, _≤_}
-use mathlib.Core.Path.{_≡_, ap, _∙_}
+use Prim.Native.Nat.{ℕ, _+_, _/_, _≤_, _<_}
+use mathlib.Core.Path.{ap, _∙_}
 use mathlib.Core.List.{List}
 use native.Mathlib.Omega.{arith}
-use lib.ListN.{length}
 use Rattle.store.specs.Store.{View, Store, Commit}
 use Rattle.growth.specs.Ordered.{Ordered}
+use Rattle.state.specs.Room.{VersionsRoom}
 use Rattle.state.specs.Keeps.{IsSet, KeepsKeys}
 use Rattle.state.specs.Accesses.{Left}
 use Rattle.state.proofs.Accesses.{next-key, left-rest, turn-below}
@@ -20,9 +20,9 @@ use Rattle.operations.proofs.note_reads.Tie as tie
 
 abbrev Inv-loop : tie.InvT-loop
 Inv-loop versions₀ keys views base ranks n me from₀ over₀ left₀ versions from over left =
-    (k : ℕ) × (k ≤ n) × Left ranks 0 n k left × (length versions ≡ 2048)
+    (k : ℕ) × (k ≤ n) × Left ranks 0 n k left × VersionsRoom versions
     × ((s : Store) (u : View) (c : Commit) (values : List ℕ) → Given s u c versions₀ views base values ranks n
-    → ReadsPassed s u c me n k versions
+    → ReadsPassed s u c (me .0) n k versions
     × (KeepsKeys s keys → Ordered s → IsSet from (From (readAt s u c) k) × IsSet over (From (laterAt s u c) k)))
 
 abbrev μ-loop : tie.MeasureT-loop
@@ -37,8 +37,12 @@ loop-holds c = (0, omega arith, c .keys-with .ensures, omega arith, λ s u d val
 lowest-requires : tie.Need-lowest-requires Inv-loop μ-loop
 lowest-requires c κs = search needs
 
+-- the key of the turn is one of the n keys
+turn : (c : tie.After-lowest Inv-loop μ-loop) → c .lowest .result / 2 < c .before .before .before .before .before .before .before .args .n
+turn c = turn-below (c .before .before .loop .inv .2) (omega arith) (c .lowest .ensures .0)
+
 writer-seen-requires : tie.Need-writer-seen-requires Inv-loop μ-loop
-writer-seen-requires c κs = let l = turn-below (c .before .before .before .loop .inv .2) (omega arith) (c .before .lowest .ensures .0) in (search needs, search needs, omega (arith, l), omega (arith, l))
+writer-seen-requires c κs = let l = turn (c .before) in (search needs, search needs, omega (arith, l), omega (arith, l))
 
 single-requires : tie.Need-single-requires Inv-loop μ-loop
 single-requires c κs = search needs
@@ -53,7 +57,7 @@ mul-without : tie.Need-mul-without Inv-loop μ-loop
 mul-without c = search needs
 
 shared-slice-read-without : tie.Need-shared-slice-read-without Inv-loop μ-loop
-shared-slice-read-without c = let l = turn-below (c .before .before .before .before .before .before .before .loop .inv .2) (omega arith) (c .before .before .before .before .before .lowest .ensures .0) in omega (arith, l)
+shared-slice-read-without c = omega (arith, turn (c .before .before .before .before .before))
 
 up-to-requires : tie.Need-up-to-requires Inv-loop μ-loop
 up-to-requires c κs = search needs
@@ -65,7 +69,7 @@ union-requires-2 : tie.Need-union-requires-2 Inv-loop μ-loop
 union-requires-2 c κs = search needs
 
 note-read-requires : tie.Need-note-read-requires Inv-loop μ-loop
-note-read-requires c κs = let l = turn-below (c .before .before .before .before .before .before .before .before .before .before .before .loop .inv .2) (omega arith) (c .before .before .before .before .before .before .before .before .before .lowest .ensures .0) in (search needs, search needs, omega (arith, l), omega (arith, l), search needs)
+note-read-requires c κs = let l = turn (c .before .before .before .before .before .before .before .before .before) in (search needs, search needs, omega (arith, l), omega (arith, l), search needs)
 
 rest-requires : tie.Need-rest-requires Inv-loop μ-loop
 rest-requires c κs = search needs
@@ -75,20 +79,24 @@ loop-less c = search needs
 
 loop-again : tie.Need-loop-again Inv-loop μ-loop
 loop-again c =
-    let (k, small, h, room, p) = c .before .before .before .before .before .before .before .before .before .before .before .before .before .before .before .loop .inv in
-    let q = ap (λ (x : ℕ). x / 2) (c .before .before .before .before .before .before .before .before .before .before .before .before .before .lowest .ensures .0) in
+    let noting = c .before .before .before in
+    let joining = noting .before .before in
+    let reading = joining .before .before .before .before in
+    let looking = reading .before .before .before .before in
+    let (k, small, h, room, p) = looking .before .before .loop .inv in
+    let q = ap (λ (x : ℕ). x / 2) (looking .lowest .ensures .0) in
     let (_, l, r, _) = next-key h (omega arith) q in (
-      c .before .before .before .before .before .before .before .before .before .before .before .before .before .lowest .result / 2 + 1,
+      looking .lowest .result / 2 + 1,
       omega (arith, l),
       left-rest h (omega arith) q (c .rest .ensures .0),
       omega arith,
       λ s u d values g. (
-        read-noted g _ h (omega arith) (omega arith) q _ (c .before .before .before .note-read .ensures) (p s u d values g .0),
+        read-noted g _ h (looking .before .before .before .before .before .before .before .pre .4) (omega arith) q _ (noting .note-read .ensures) (p s u d values g .0),
         λ kept o.
-            let w = c .before .before .before .before .before .before .before .before .before .before .before .writer-seen .ensures .0 ∙ writer-left g _ h (omega arith) q _ (p s u d values g .0) in
+            let w = reading .before .before .writer-seen .ensures .0 ∙ writer-left g _ h (omega arith) q _ (p s u d values g .0) in
             let x = p s u d values g .1 kept o in (
-              reads-turn g h (readAt s u d) (λ q t x. x .0) _ (x .0) (omega arith) q _ (c .before .before .before .before .before .before .before .before .before .union .ensures) (source-read g _ l r w (c .before .before .before .before .before .before .before .before .before .before .single .ensures)),
-              reads-turn g h (laterAt s u d) (λ q t x. x .0) _ (x .1) (omega arith) q _ (c .before .before .before .before .before .union2 .ensures) (later-read g _ l r w o kept (c .before .before .before .before .before .before .before .up-to .ensures) (c .before .before .before .before .before .before .without .ensures)),
+              reads-turn g h (readAt s u d) (λ q t x. x .0) _ (x .0) (omega arith) q _ (reading .union .ensures) (source-read g _ l r w (reading .before .single .ensures)),
+              reads-turn g h (laterAt s u d) (λ q t x. x .0) _ (x .1) (omega arith) q _ (joining .union2 .ensures) (later-read g _ l r w o kept (joining .before .before .up-to .ensures) (joining .before .without .ensures)),
             ),
       ),
     )

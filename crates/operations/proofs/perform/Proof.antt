@@ -19,7 +19,7 @@ same-length-2 c = search needs
 
 returns : tie.Need-returns
 returns c =
-    let t = c .before .before .before .before .before .before .before .before .before .before .before .before .before .before .before .before .args .me in
+    let t = c .before .before .before .before .before .before .before .before .before .before .before .before .before .before .before .before .args .me .0 in
     let noted = c .before .before .before .before .before .before .before .before .before .note-reads .ensures in
     let appended = c .before .before .before .before .append .ensures in (
       λ s u d g h e. let x = appended (readsNoted s u d t) d (reads-then-writes g t _ _ h (noted .0 s u d _ g)) in performed g t e _ _ (x .0, x .1),

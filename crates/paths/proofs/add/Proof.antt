@@ -45,14 +45,21 @@ bring-requires : tie.Need-bring-requires
 bring-requires c κs = simp length-set (omega (arith, c .before .before .before .before .before .point .ensures .long))
 
 same-length : tie.Need-same-length
-same-length c = c .before .before .bring .ensures .long ∙ simp length-set (c .before .before .before .before .before .before .before .before .point .ensures .long)
+same-length c =
+    let bringing = c .before .before in
+    bringing .bring .ensures .long ∙ simp length-set (bringing .before .before .before .before .before .before .point .ensures .long)
 
 returns : tie.Need-returns
 returns c =
-    let a = c .before .before .before .before .before .before .before .before .before .before .before .before .before .before .before in
-    let b = c .before .before .before .before .before .before .before .before .before .before .brought .ensures in
-    let g = added _ _ _ _ _ _ (a .pre .1) (a .pre .2) (a .fits .over .fits) _ _ _ (a .pre .0) _ _ (c .before .before .before .before .before .before .before .before .point .ensures) (c .before .before .bring .ensures) _ _ (b .0) (b .1) (c .before .before .before .before .before .union3 .ensures) (c .before .before .before .before .union4 .ensures) in
-    links-added _ _ _ _ _ _ _ _ _ (g .0) (c .before .before .before .before .before .before .before .before .before .before .before .before .before .union .ensures) (c .before .before .before .before .before .before .before .before .before .before .before .before .union2 .ensures) (g .1) (g .2)
+    let bringing = c .before .before in
+    let later = bringing .before .before in
+    let pointing = later .before .before .before .before in
+    let gathering = pointing .before .before in
+    let joining = gathering .before .before in
+    let entry = joining .before .before .before in
+    let b = gathering .brought .ensures in
+    let g = added _ _ _ _ _ _ (entry .pre .1) (entry .pre .2) (entry .fits .over .fits) _ _ _ (entry .pre .0) _ _ (pointing .point .ensures) (bringing .bring .ensures) _ _ (b .0) (b .1) (later .before .union3 .ensures) (later .union4 .ensures) in
+    links-added _ _ _ _ _ _ _ _ _ (g .0) (joining .before .union .ensures) (joining .union2 .ensures) (g .1) (g .2)
 
 pub add-spec : {M : Type 1} → statement M
 add-spec =

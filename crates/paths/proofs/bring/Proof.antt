@@ -6,7 +6,7 @@ use native.Mathlib.Omega.{arith}
 use lib.ListN.{length-set}
 use borrow.Author.Needs.{needs}
 use Rattle.state.specs.Accesses.{Left}
-use Rattle.state.proofs.Accesses.{next-key, left-rest, left-none}
+use Rattle.state.proofs.Accesses.{turn-below, next-key, left-rest, left-none}
 use Rattle.paths.specs.Added.{Joined, LeadsOf}
 use Rattle.paths.proofs.Joined.{joined-none, leads-none, leads-turn, leads-passed}
 use Rattle.paths.proofs.bring.Statement.{statement}
@@ -34,7 +34,7 @@ mul-union : tie.Need-mul-union Inv-loop μ-loop
 mul-union c = search needs
 
 slice-read-union : tie.Need-slice-read-union Inv-loop μ-loop
-slice-read-union c = search needs
+slice-read-union c = omega (arith, turn-below (c .before .before .before .loop .inv .2) (omega arith) (c .before .lowest .ensures .0), c .before .before .before .loop .inv .3 .long)
 
 union-requires : tie.Need-union-requires Inv-loop μ-loop
 union-requires c κs = search needs
@@ -46,7 +46,7 @@ mul-links : tie.Need-mul-links Inv-loop μ-loop
 mul-links c = search needs
 
 slice-write-links : tie.Need-slice-write-links Inv-loop μ-loop
-slice-write-links c = search needs
+slice-write-links c = omega (arith, turn-below (c .before .before .before .before .loop .inv .2) (omega arith) (c .before .before .lowest .ensures .0), c .before .before .before .before .loop .inv .3 .long)
 
 add-union-2 : tie.Need-add-union-2 Inv-loop μ-loop
 add-union-2 c = search needs
@@ -55,7 +55,7 @@ mul-union-2 : tie.Need-mul-union-2 Inv-loop μ-loop
 mul-union-2 c = search needs
 
 slice-read-union-2 : tie.Need-slice-read-union-2 Inv-loop μ-loop
-slice-read-union-2 c = simp length-set (omega (arith, next-key (c .before .before .before .before .before .loop .inv .2) (omega arith) (ap (λ (x : ℕ). x / 2) (c .before .before .before .lowest .ensures .0)) .1, c .before .before .before .before .before .loop .inv .3 .long))
+slice-read-union-2 c = simp length-set (omega (arith, turn-below (c .before .before .before .before .before .loop .inv .2) (omega arith) (c .before .before .before .lowest .ensures .0), c .before .before .before .before .before .loop .inv .3 .long))
 
 union-requires-2 : tie.Need-union-requires-2 Inv-loop μ-loop
 union-requires-2 c κs = search needs
@@ -67,7 +67,7 @@ mul-links-2 : tie.Need-mul-links-2 Inv-loop μ-loop
 mul-links-2 c = search needs
 
 slice-write-links-2 : tie.Need-slice-write-links-2 Inv-loop μ-loop
-slice-write-links-2 c = simp length-set (omega (arith, next-key (c .before .before .before .before .before .before .loop .inv .2) (omega arith) (ap (λ (x : ℕ). x / 2) (c .before .before .before .before .lowest .ensures .0)) .1, c .before .before .before .before .before .before .loop .inv .3 .long))
+slice-write-links-2 c = simp length-set (omega (arith, turn-below (c .before .before .before .before .before .before .loop .inv .2) (omega arith) (c .before .before .before .before .lowest .ensures .0), c .before .before .before .before .before .before .loop .inv .3 .long))
 
 rest-requires : tie.Need-rest-requires Inv-loop μ-loop
 rest-requires c κs = search needs

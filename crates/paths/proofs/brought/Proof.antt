@@ -6,7 +6,7 @@ use native.Mathlib.Omega.{arith}
 use borrow.Author.Needs.{needs}
 use Rattle.state.specs.Accesses.{Left}
 use Rattle.state.specs.Keeps.{IsSet}
-use Rattle.state.proofs.Accesses.{next-key, left-rest, left-none}
+use Rattle.state.proofs.Accesses.{turn-below, next-key, left-rest, left-none}
 use Rattle.paths.specs.Added.{BroughtBelow}
 use Rattle.paths.proofs.Joined.{brought-none, brought-turn, brought-passed}
 use Rattle.paths.proofs.brought.Statement.{statement}
@@ -35,7 +35,7 @@ mul-union : tie.Need-mul-union Inv-loop μ-loop
 mul-union c = search needs
 
 shared-slice-read-union : tie.Need-shared-slice-read-union Inv-loop μ-loop
-shared-slice-read-union c = search needs
+shared-slice-read-union c = omega (arith, turn-below (c .before .before .before .loop .inv .2) (omega arith) (c .before .lowest .ensures .0))
 
 union-requires : tie.Need-union-requires Inv-loop μ-loop
 union-requires c κs = search needs
@@ -47,7 +47,7 @@ mul-union-2 : tie.Need-mul-union-2 Inv-loop μ-loop
 mul-union-2 c = search needs
 
 shared-slice-read-union-2 : tie.Need-shared-slice-read-union-2 Inv-loop μ-loop
-shared-slice-read-union-2 c = omega (arith, next-key (c .before .before .before .before .before .loop .inv .2) (omega arith) (ap (λ (x : ℕ). x / 2) (c .before .before .before .lowest .ensures .0)) .1)
+shared-slice-read-union-2 c = omega (arith, turn-below (c .before .before .before .before .before .loop .inv .2) (omega arith) (c .before .before .before .lowest .ensures .0))
 
 union-requires-2 : tie.Need-union-requires-2 Inv-loop μ-loop
 union-requires-2 c κs = search needs

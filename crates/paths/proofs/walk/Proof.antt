@@ -5,6 +5,7 @@ use Prim.Native.Nat.{ℕ, _-_, _*_, _^_, _<_}
 use native.Mathlib.Omega.{arith}
 use lib.Dec.{T}
 use Rattle.sets.specs.Set.{has}
+use Rattle.store.specs.Limits.{numbers}
 use Rattle.store.specs.Store.{Store}
 use Rattle.state.specs.Keeps.{IsSet, Step, KeepsLinks}
 use Rattle.state.specs.Rows.{InRows}
@@ -15,7 +16,7 @@ use Rattle.paths.proofs.walk.Tie as tie
 abbrev Inv-loop : tie.InvT-loop
 Inv-loop links kind set first all₀ done₀ left₀ all done left =
     (left < 2 ^ 64) × ((t : ℕ) → T (has done t) → ¬ T (has left t))
-    × ((s : Store) → KeepsLinks s links → IsSet first (InRows links (64 * kind) set) → Walked (Step kind s) set all done left)
+    × ((s : Store) → KeepsLinks s links → IsSet first (InRows links (numbers * kind) set) → Walked (Step kind s) set all done left)
 
 abbrev μ-loop : tie.MeasureT-loop
 μ-loop links kind set first all₀ done₀ left₀ all done left = 2 ^ 64 - done
@@ -28,7 +29,7 @@ loop-holds c =
     let a = c .before .before in (
       omega (arith, c .without .ok),
       still-apart _ _ (c .without .ensures),
-      λ s k is. walk-first (a .fits .set .fits) (a .args .links .now) (64 * a .args .kind) (k .steps _ (a .pre .1)) _ is (c .without .ensures),
+      λ s k is. walk-first (a .fits .set .fits) (a .args .links .now) (numbers * a .args .kind) (k .steps _ (a .pre .1)) _ is (c .without .ensures),
     )
 
 mul-gather : tie.Need-mul-gather Inv-loop μ-loop
@@ -57,7 +58,7 @@ loop-again c =
     let a = c .before .before .before .before .before .before .before .before in (
       omega (arith, c .without2 .ok),
       still-apart _ _ (c .without2 .ensures),
-      λ s k is. walk-turn (l .inv .2 s k is) (l .inv .0) (a .args .links .now) (64 * a .args .kind) (k .steps _ (a .pre .1)) _ (c .before .before .before .gather .ensures) (c .before .before .union .ensures) (c .before .union2 .ensures) (c .without2 .ensures),
+      λ s k is. walk-turn (l .inv .2 s k is) (l .inv .0) (a .args .links .now) (numbers * a .args .kind) (k .steps _ (a .pre .1)) _ (c .before .before .before .gather .ensures) (c .before .before .union .ensures) (c .before .union2 .ensures) (c .without2 .ensures),
     )
 
 returns : tie.Need-returns Inv-loop μ-loop

@@ -1,92 +1,150 @@
 -- `run::run_all` meets its contract: before each record the run stands, with its arrays, where the records so far leave it. Assumes nothing.
 use borrow.Author.Needs.{needs}
-use Prim.Native.Nat.{_+_, _≤_, _<_}
-use mathlib.Core.Path.{_≡_, subst}
+use Prim.Native.Nat.{ℕ, _+_, _≤_, _<_}
+use mathlib.Core.Path.{_≡_}
 use mathlib.Core.List.{List}
 use native.Mathlib.Omega.{arith}
 use lib.ListN.{length}
+use denote.Ref.{now}
+use Rattle.endian.specs.Endian.{Bytes}
 use Rattle.trace.specs.Entry.{Entry}
+use Rattle.trace.specs.Meaning.{RecordSays}
+use Rattle.trace.specs.declared.records.Reading.the-variants.{Whole}
 use Rattle.run.specs.Ran.{Starts}
-use Rattle.run.specs.OneRecord.{NextWithin}
-use Rattle.run.proofs.OneRecord.{record-readable}
-use Rattle.run.proofs.Runs.{Stands, run-starts, in-form, run-goes, run-stops, run-ends}
+use Rattle.run.proofs.Runs.{Stands, run-starts, few-made, in-form, next-within, readable, run-goes, run-stops, run-ends}
 use Rattle.run.proofs.run_all.Statement.{statement}
 use Rattle.run.proofs.run_all.Tie as tie
 
+-- the lengths of the arrays
+abbrev Lengths : (versions keys views seen sessions commits links verdicts values fresh : List ℕ) → Type 0
+Lengths versions keys views seen sessions commits links verdicts values fresh =
+    (length verdicts ≡ 40) × (length values ≡ 32) × (length fresh ≡ 16) × (length versions ≡ 2048) × (length keys ≡ 32) × (length views ≡ 256) × (length seen ≡ 16) × (length sessions ≡ 48) × (length commits ≡ 192) × (length links ≡ 160)
+
 abbrev Inv-loop : tie.InvT-loop
 Inv-loop file n clients records versions₀ keys₀ views₀ seen₀ sessions₀ commits₀ links₀ verdicts₀ values₀ fresh₀ at₀ number₀ made₀ left₀ versions keys views seen sessions commits links verdicts values fresh at number made left =
-    (at ≤ length file) × (number + left ≡ records + 1)
-    × ((length verdicts ≡ 40) × (length values ≡ 32) × (length fresh ≡ 16) × (length versions ≡ 2048) × (length keys ≡ 32) × (length views ≡ 256) × (length seen ≡ 16) × (length sessions ≡ 48) × (length commits ≡ 192) × (length links ≡ 160))
+    (at ≤ length file) × (number + left ≡ records + 1) × Lengths versions keys views seen sessions commits links verdicts values fresh
     × ((rs : List Entry) → Starts file n clients records rs versions₀ keys₀ views₀ seen₀ sessions₀ commits₀ links₀ verdicts₀ values₀
     → Stands file n clients records rs left at number made versions keys views seen sessions commits links verdicts values)
 
 abbrev μ-loop : tie.MeasureT-loop
 μ-loop file n clients records versions₀ keys₀ views₀ seen₀ sessions₀ commits₀ links₀ verdicts₀ values₀ fresh₀ at₀ number₀ made₀ left₀ versions keys views seen sessions commits links verdicts values fresh at number made left = left
 
+-- ---- places of a turn, and what holds there
+
+-- from where a record was done back to its call, to where it was read, and to where the run began
+abbrev called : tie.After-slice-known20 Inv-loop μ-loop → tie.After-one-record Inv-loop μ-loop
+called c = c .before .before .before .before .before .before .before .before .before .before .before .before .before .before .before .before .before .before .before .before
+
+abbrev known : tie.After-one-record Inv-loop μ-loop → tie.After-known-at Inv-loop μ-loop
+known c = c .before .before .before .before .before .before .before .before .before .before .before
+
+abbrev began : tie.After-known-at Inv-loop μ-loop → tie.Start Inv-loop μ-loop
+began c = c .before .before .before .before .before .before .before .before .before .before .before .before .before .before
+
+-- the file is one of bytes
+bytes : (c : tie.After-known-at Inv-loop μ-loop) → Bytes (now (began c .args .file))
+bytes c = λ i. c .before .before .before .before .before .before .before .before .before .before .before .before .before .shared-slice-known .given i .fits
+
+-- there was a record left, and it is in form
+some-left : (c : tie.After-known-at Inv-loop μ-loop) → 0 < c .before .before .loop .left
+some-left c = omega (arith, c .before .loop-test .taken)
+
+says : (c : tie.After-known-at Inv-loop μ-loop) → let a = began c .args in
+    RecordSays (now (a .file)) (c .before .before .loop .at) (a .n) (a .clients) (Whole (c .known-at .result .record) (c .known-at .result .next))
+says c =
+    let (rs, starts) = began c .pre .1 .1 .1 in
+    c .known-at .ensures _ (in-form (c .before .before .loop .inv .3 rs starts) (some-left c))
+
+-- its call keeps the lengths of the arrays
+kept : (c : tie.After-slice-known20 Inv-loop μ-loop) → let o = called c .one-record .last .1 .1 .1 .1 in
+    Lengths (o .0) (o .1 .0) (o .1 .1 .0) (o .1 .1 .1 .0) (o .1 .1 .1 .1 .0) (o .1 .1 .1 .1 .1 .0) (o .1 .1 .1 .1 .1 .1 .0) (o .1 .1 .1 .1 .1 .1 .1 .0) (o .1 .1 .1 .1 .1 .1 .1 .1 .0) (o .1 .1 .1 .1 .1 .1 .1 .1 .1 .0)
+kept c =
+    let l = known (called c) .before .before .loop .inv .2 in
+    (omega (arith, c .before .before .before .before .before .verdicts .given, l .0), omega (arith, c .before .before .before .values .given, l .1), omega (arith, c .before .fresh .given, l .2), omega (arith, c .before .before .before .before .before .before .before .before .before .before .before .before .before .before .before .before .before .before .before .versions .given, l .3), omega (arith, c .before .before .before .before .before .before .before .before .before .before .before .before .before .before .before .before .before .keys .given, l .4), omega (arith, c .before .before .before .before .before .before .before .before .before .before .before .before .before .before .before .views .given, l .5), omega (arith, c .before .before .before .before .before .before .before .before .before .before .before .before .before .seen .given, l .6), omega (arith, c .before .before .before .before .before .before .before .before .before .before .before .sessions .given, l .7), omega (arith, c .before .before .before .before .before .before .before .before .before .commits .given, l .8), omega (arith, c .before .before .before .before .before .before .before .links .given, l .9))
+
+-- ---- the needs
+
 loop-holds : tie.Need-loop-holds Inv-loop μ-loop
 loop-holds c =
     let p = c .before .before .before .before .before .before .before .before .before .before .before .pre in
-    (omega arith, omega arith, (p .1 .0 .0, p .1 .0 .1, p .1 .0 .2, p .1 .1 .0 .0, p .1 .1 .0 .1, p .1 .1 .0 .2, p .1 .1 .0 .3, p .1 .1 .0 .4, p .1 .1 .0 .5, p .1 .1 .0 .6), λ es s. run-starts s)
+    (omega arith, omega arith, (p .1 .0 .0, p .1 .0 .1, p .1 .0 .2, p .1 .1 .0 .0, p .1 .1 .0 .1, p .1 .1 .0 .2, p .1 .1 .0 .3, p .1 .1 .0 .4, p .1 .1 .0 .5, p .1 .1 .0 .6), λ rs s. run-starts s)
 
 known-at-requires : tie.Need-known-at-requires Inv-loop μ-loop
 known-at-requires c κs =
-    let (es, starts) = c .before .before .before .before .before .before .before .before .before .before .before .before .before .pre .1 .1 .1 in (_, in-form (c .before .loop .inv .3 es starts) (omega arith))
+    let (rs, starts) = c .before .before .before .before .before .before .before .before .before .before .before .before .before .pre .1 .1 .1 in
+    (_, in-form (c .before .loop .inv .3 rs starts) (omega arith))
 
 one-record-requires : tie.Need-one-record-requires Inv-loop μ-loop
 one-record-requires c κs =
-    let p = c .before .before .before .before .before .before .before .before .before .before .before .before .before .before .before .before .before .before .before .before .before .before .before .before .pre in
-    let (es, starts) = p .1 .1 .1 in
-    let l = c .before .before .before .before .before .before .before .before .before .before .before .before .loop .inv .2 in
-    let formed = in-form (c .before .before .before .before .before .before .before .before .before .before .before .before .loop .inv .3 es starts) (omega (arith, c .before .before .before .before .before .before .before .before .before .before .before .loop-test .taken)) in
-    let readable = record-readable _ (λ i. c .before .before .before .before .before .before .before .before .before .before .before .before .before .before .before .before .before .before .before .before .before .before .before .shared-slice-known .given i .fits) _ _ _ _ (p .0 .2) (c .before .before .before .before .before .before .before .before .before .before .known-at .ensures _ formed) in
-    ((p .0 .0, p .0 .1, readable, l .0, l .1, l .2), (l .3, l .4, l .5, l .6, l .7, l .8, l .9))
+    let k = c .before .before .before .before .before .before .before .before .before .before in
+    let p = began k .pre in
+    let l = k .before .before .loop .inv in
+    let (rs, starts) = p .1 .1 .1 in
+    ((p .0 .0, p .0 .1, readable (l .3 rs starts) (bytes k) (p .0 .2) (some-left k) _ _ (says k), l .2 .0, l .2 .1, l .2 .2), (l .2 .3, l .2 .4, l .2 .5, l .2 .6, l .2 .7, l .2 .8, l .2 .9))
 
-enum-known-next : tie.Need-enum-known-next Inv-loop μ-loop
-enum-known-next c = search needs
-
-enum-known-next-2 : tie.Need-enum-known-next-2 Inv-loop μ-loop
-enum-known-next-2 c = search needs
+enum-known-outcome : tie.Need-enum-known-outcome Inv-loop μ-loop
+enum-known-outcome c = search needs
 
 same-length : tie.Need-same-length Inv-loop μ-loop
-same-length c = omega (arith, c .before .before .before .before .before .before .before .before .before .before .before .before .before .before .before .before .before .before .before .before .before .before .versions .given, c .before .before .before .before .before .before .before .before .before .before .before .before .before .before .before .before .before .before .before .before .before .before .before .before .before .before .before .before .before .before .before .before .before .before .before .before .loop .inv .2 .3, c .before .before .before .before .before .before .before .before .before .before .before .before .before .before .before .before .before .before .before .before .before .before .before .before .before .before .before .before .before .before .before .before .before .before .before .before .before .before .before .before .before .before .before .before .before .before .before .before .pre .1 .1 .0 .0)
+same-length c =
+    omega (arith, kept (c .before .before .before), began (known (called (c .before .before .before))) .pre .1)
 
 same-length-2 : tie.Need-same-length-2 Inv-loop μ-loop
-same-length-2 c = omega (arith, c .before .before .before .before .before .before .before .before .before .before .before .before .before .before .before .before .before .before .before .before .keys .given, c .before .before .before .before .before .before .before .before .before .before .before .before .before .before .before .before .before .before .before .before .before .before .before .before .before .before .before .before .before .before .before .before .before .before .before .before .loop .inv .2 .4, c .before .before .before .before .before .before .before .before .before .before .before .before .before .before .before .before .before .before .before .before .before .before .before .before .before .before .before .before .before .before .before .before .before .before .before .before .before .before .before .before .before .before .before .before .before .before .before .before .pre .1 .1 .0 .1)
+same-length-2 c =
+    omega (arith, kept (c .before .before .before), began (known (called (c .before .before .before))) .pre .1)
 
 same-length-3 : tie.Need-same-length-3 Inv-loop μ-loop
-same-length-3 c = omega (arith, c .before .before .before .before .before .before .before .before .before .before .before .before .before .before .before .before .before .before .views .given, c .before .before .before .before .before .before .before .before .before .before .before .before .before .before .before .before .before .before .before .before .before .before .before .before .before .before .before .before .before .before .before .before .before .before .before .before .loop .inv .2 .5, c .before .before .before .before .before .before .before .before .before .before .before .before .before .before .before .before .before .before .before .before .before .before .before .before .before .before .before .before .before .before .before .before .before .before .before .before .before .before .before .before .before .before .before .before .before .before .before .before .pre .1 .1 .0 .2)
+same-length-3 c =
+    omega (arith, kept (c .before .before .before), began (known (called (c .before .before .before))) .pre .1)
 
 same-length-4 : tie.Need-same-length-4 Inv-loop μ-loop
-same-length-4 c = omega (arith, c .before .before .before .before .before .before .before .before .before .before .before .before .before .before .before .before .seen .given, c .before .before .before .before .before .before .before .before .before .before .before .before .before .before .before .before .before .before .before .before .before .before .before .before .before .before .before .before .before .before .before .before .before .before .before .before .loop .inv .2 .6, c .before .before .before .before .before .before .before .before .before .before .before .before .before .before .before .before .before .before .before .before .before .before .before .before .before .before .before .before .before .before .before .before .before .before .before .before .before .before .before .before .before .before .before .before .before .before .before .before .pre .1 .1 .0 .3)
+same-length-4 c =
+    omega (arith, kept (c .before .before .before), began (known (called (c .before .before .before))) .pre .1)
 
 same-length-5 : tie.Need-same-length-5 Inv-loop μ-loop
-same-length-5 c = omega (arith, c .before .before .before .before .before .before .before .before .before .before .before .before .before .before .sessions .given, c .before .before .before .before .before .before .before .before .before .before .before .before .before .before .before .before .before .before .before .before .before .before .before .before .before .before .before .before .before .before .before .before .before .before .before .before .loop .inv .2 .7, c .before .before .before .before .before .before .before .before .before .before .before .before .before .before .before .before .before .before .before .before .before .before .before .before .before .before .before .before .before .before .before .before .before .before .before .before .before .before .before .before .before .before .before .before .before .before .before .before .pre .1 .1 .0 .4)
+same-length-5 c =
+    omega (arith, kept (c .before .before .before), began (known (called (c .before .before .before))) .pre .1)
 
 same-length-6 : tie.Need-same-length-6 Inv-loop μ-loop
-same-length-6 c = omega (arith, c .before .before .before .before .before .before .before .before .before .before .before .before .commits .given, c .before .before .before .before .before .before .before .before .before .before .before .before .before .before .before .before .before .before .before .before .before .before .before .before .before .before .before .before .before .before .before .before .before .before .before .before .loop .inv .2 .8, c .before .before .before .before .before .before .before .before .before .before .before .before .before .before .before .before .before .before .before .before .before .before .before .before .before .before .before .before .before .before .before .before .before .before .before .before .before .before .before .before .before .before .before .before .before .before .before .before .pre .1 .1 .0 .5)
+same-length-6 c =
+    omega (arith, kept (c .before .before .before), began (known (called (c .before .before .before))) .pre .1)
 
 same-length-7 : tie.Need-same-length-7 Inv-loop μ-loop
-same-length-7 c = omega (arith, c .before .before .before .before .before .before .before .before .before .before .links .given, c .before .before .before .before .before .before .before .before .before .before .before .before .before .before .before .before .before .before .before .before .before .before .before .before .before .before .before .before .before .before .before .before .before .before .before .before .loop .inv .2 .9, c .before .before .before .before .before .before .before .before .before .before .before .before .before .before .before .before .before .before .before .before .before .before .before .before .before .before .before .before .before .before .before .before .before .before .before .before .before .before .before .before .before .before .before .before .before .before .before .before .pre .1 .1 .0 .6)
+same-length-7 c =
+    omega (arith, kept (c .before .before .before), began (known (called (c .before .before .before))) .pre .1)
 
 same-length-8 : tie.Need-same-length-8 Inv-loop μ-loop
-same-length-8 c = omega (arith, c .before .before .before .before .before .before .before .before .verdicts .given, c .before .before .before .before .before .before .before .before .before .before .before .before .before .before .before .before .before .before .before .before .before .before .before .before .before .before .before .before .before .before .before .before .before .before .before .before .loop .inv .2 .0, c .before .before .before .before .before .before .before .before .before .before .before .before .before .before .before .before .before .before .before .before .before .before .before .before .before .before .before .before .before .before .before .before .before .before .before .before .before .before .before .before .before .before .before .before .before .before .before .before .pre .1 .0 .0)
+same-length-8 c =
+    omega (arith, kept (c .before .before .before), began (known (called (c .before .before .before))) .pre .1)
 
 same-length-9 : tie.Need-same-length-9 Inv-loop μ-loop
-same-length-9 c = omega (arith, c .before .before .before .before .before .before .values .given, c .before .before .before .before .before .before .before .before .before .before .before .before .before .before .before .before .before .before .before .before .before .before .before .before .before .before .before .before .before .before .before .before .before .before .before .before .loop .inv .2 .1, c .before .before .before .before .before .before .before .before .before .before .before .before .before .before .before .before .before .before .before .before .before .before .before .before .before .before .before .before .before .before .before .before .before .before .before .before .before .before .before .before .before .before .before .before .before .before .before .before .pre .1 .0 .1)
+same-length-9 c =
+    omega (arith, kept (c .before .before .before), began (known (called (c .before .before .before))) .pre .1)
 
 same-length-10 : tie.Need-same-length-10 Inv-loop μ-loop
-same-length-10 c = omega (arith, c .before .before .before .before .fresh .given, c .before .before .before .before .before .before .before .before .before .before .before .before .before .before .before .before .before .before .before .before .before .before .before .before .before .before .before .before .before .before .before .before .before .before .before .before .loop .inv .2 .2, c .before .before .before .before .before .before .before .before .before .before .before .before .before .before .before .before .before .before .before .before .before .before .before .before .before .before .before .before .before .before .before .before .before .before .before .before .before .before .before .before .before .before .before .before .before .before .before .before .pre .1 .0 .2)
+same-length-10 c =
+    omega (arith, kept (c .before .before .before), began (known (called (c .before .before .before))) .pre .1)
 
 returns : tie.Need-returns Inv-loop μ-loop
 returns c =
-    λ es s.
-    let l = c .before .before .before .before .before .before .before .before .before .before .before .before .before .before .before .before .before .before .before .before .before .before .before .before .before .before .before .before .before .before .before .before .before .before .before .before .loop in
-    let some : 0 < l .left = omega (arith, c .before .before .before .before .before .before .before .before .before .before .before .before .before .before .before .before .before .before .before .before .before .before .before .before .before .before .before .before .before .before .before .before .before .before .before .loop-test .taken) in
-    run-stops (l .inv .3 es s) (λ i. c .before .before .before .before .before .before .before .before .before .before .before .before .before .before .before .before .before .before .before .before .before .before .before .before .before .before .before .before .before .before .before .before .before .before .before .before .before .before .before .before .before .before .before .before .before .before .before .shared-slice-known .given i .fits) (c .before .before .before .before .before .before .before .before .before .before .before .before .before .before .before .before .before .before .before .before .before .before .before .before .before .before .before .before .before .before .before .before .before .before .before .before .before .before .before .before .before .before .before .before .before .before .before .before .pre .0 .2) some _ (c .before .before .before .before .before .before .before .before .before .before .before .before .before .before .before .before .before .before .before .before .before .before .before .before .before .before .before .before .before .before .before .before .before .before .known-at .ensures _ (in-form (l .inv .3 es s) some)) _ _ _ _ _ _ _ _ _ _
-    (c .before .before .before .before .before .before .before .before .before .before .before .before .before .before .before .before .before .before .before .before .before .before .before .one-record .ensures .1) (c .before .next2 .given .1)
+    let k = known (called (c .before .before .before)) in
+    λ rs s.
+    run-stops (k .before .before .loop .inv .3 rs s) (bytes k) (began k .pre .0 .2) (some-left k) _ _ (says k) _ _ _ _ _ _ _ _ _ _
+    (called (c .before .before .before) .one-record .ensures) (c .before .outcome .given .1)
+
+enum-told : tie.Need-enum-told Inv-loop μ-loop
+enum-told c = search needs
+
+commits-with-requires : tie.Need-commits-with-requires Inv-loop μ-loop
+commits-with-requires c κs =
+    let k = known (called (c .before .before)) in
+    let (rs, starts) = began k .pre .1 .1 .1 in
+    few-made (k .before .before .loop .inv .3 rs starts)
 
 add-number : tie.Need-add-number Inv-loop μ-loop
-add-number c = omega (arith, c .before .before .before .before .before .before .before .before .before .before .before .before .before .before .before .before .before .before .before .before .before .before .before .before .before .before .before .before .before .before .before .before .before .before .before .before .loop .inv .1, c .before .before .before .before .before .before .before .before .before .before .before .before .before .before .before .before .before .before .before .before .before .before .before .before .before .before .before .before .before .before .before .before .before .before .before .before .before .before .before .before .before .before .before .before .before .before .before .before .pre .0 .5)
+add-number c =
+    let k = known (called (c .before .before .before)) in
+    omega (arith, k .before .before .loop .inv .1, began k .pre .0 .5)
 
 sub-left : tie.Need-sub-left Inv-loop μ-loop
 sub-left c = search needs
@@ -96,25 +154,16 @@ loop-less c = search needs
 
 loop-again : tie.Need-loop-again Inv-loop μ-loop
 loop-again c =
-    let l = c .before .before .before .before .before .before .before .before .before .before .before .before .before .before .before .before .before .before .before .before .before .before .before .before .before .before .before .before .before .before .before .before .before .before .before .before .loop in
-    let is = c .before .next .given .1 in (
-      subst (NextWithin _) is (c .before .before .before .before .before .before .before .before .before .before .before .before .before .before .before .before .before .before .before .before .before .before .before .one-record .ensures .0),
+    let k = known (called (c .before .before .before)) in
+    let l = k .before .before .loop .inv in
+    let p = began k .pre in
+    let (rs, starts) = p .1 .1 .1 in (
+      next-within (l .3 rs starts) (bytes k) (p .0 .2) (some-left k) _ _ (says k),
       omega arith,
-      (
-        omega (arith, c .before .before .before .before .before .before .before .before .verdicts .given, l .inv .2 .0),
-        omega (arith, c .before .before .before .before .before .before .values .given, l .inv .2 .1),
-        omega (arith, c .before .before .before .before .fresh .given, l .inv .2 .2),
-        omega (arith, c .before .before .before .before .before .before .before .before .before .before .before .before .before .before .before .before .before .before .before .before .before .before .versions .given, l .inv .2 .3),
-        omega (arith, c .before .before .before .before .before .before .before .before .before .before .before .before .before .before .before .before .before .before .before .before .keys .given, l .inv .2 .4),
-        omega (arith, c .before .before .before .before .before .before .before .before .before .before .before .before .before .before .before .before .before .before .views .given, l .inv .2 .5),
-        omega (arith, c .before .before .before .before .before .before .before .before .before .before .before .before .before .before .before .before .seen .given, l .inv .2 .6),
-        omega (arith, c .before .before .before .before .before .before .before .before .before .before .before .before .before .before .sessions .given, l .inv .2 .7),
-        omega (arith, c .before .before .before .before .before .before .before .before .before .before .before .before .commits .given, l .inv .2 .8),
-        omega (arith, c .before .before .before .before .before .before .before .before .before .before .links .given, l .inv .2 .9),
-      ),
-      λ es s.
-          run-goes (l .inv .3 es s) (λ i. c .before .before .before .before .before .before .before .before .before .before .before .before .before .before .before .before .before .before .before .before .before .before .before .before .before .before .before .before .before .before .before .before .before .before .before .before .before .before .before .before .before .before .before .before .before .before .before .shared-slice-known .given i .fits) (c .before .before .before .before .before .before .before .before .before .before .before .before .before .before .before .before .before .before .before .before .before .before .before .before .before .before .before .before .before .before .before .before .before .before .before .before .before .before .before .before .before .before .before .before .before .before .before .before .pre .0 .2) (omega arith) _ (c .before .before .before .before .before .before .before .before .before .before .before .before .before .before .before .before .before .before .before .before .before .before .before .before .before .before .before .before .before .before .before .before .before .before .known-at .ensures _ (in-form (l .inv .3 es s) (omega arith))) _ _ _ _ _ _ _ _ _ _
-          (c .before .before .before .before .before .before .before .before .before .before .before .before .before .before .before .before .before .before .before .before .before .before .before .one-record .ensures .1) is,
+      kept (c .before .before .before),
+      λ rs s.
+          run-goes (l .3 rs s) (bytes k) (p .0 .2) (some-left k) _ _ (says k) _ _ _ _ _ _ _ _ _ _
+          (called (c .before .before .before) .one-record .ensures) (c .before .enum-told .given .1) (c .commits-with .ensures _ _),
     )
 
 same-length-11 : tie.Need-same-length-11 Inv-loop μ-loop
@@ -149,7 +198,7 @@ same-length-20 c = search needs
 
 returns-2 : tie.Need-returns-2 Inv-loop μ-loop
 returns-2 c =
-    λ es s. run-ends (c .before .loop .inv .3 es s) (omega arith)
+    λ rs s. run-ends (c .before .loop .inv .3 rs s) (omega arith)
 
 pub run-all-spec : {M : Type 1} → statement M
 run-all-spec =
@@ -160,8 +209,7 @@ run-all-spec =
     loop-holds
     known-at-requires
     one-record-requires
-    enum-known-next
-    enum-known-next-2
+    enum-known-outcome
     same-length
     same-length-2
     same-length-3
@@ -173,6 +221,8 @@ run-all-spec =
     same-length-9
     same-length-10
     returns
+    enum-told
+    commits-with-requires
     add-number
     sub-left
     loop-less

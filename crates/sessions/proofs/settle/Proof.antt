@@ -9,6 +9,7 @@ use mathlib.Core.List.{[]}
 use lib.ListN.{length-set}
 use Rattle.store.specs.Store.{Commit}
 use Rattle.growth.specs.Made.{Operates}
+use Rattle.store.specs.Limits.{maxClients, numbers}
 use Rattle.sessions.proofs.Settled.{idle-sessions, sessions-settled, commits-settled, commits-idle}
 use Rattle.sessions.proofs.settle.Statement.{statement}
 use Rattle.sessions.proofs.settle.Tie as tie
@@ -101,14 +102,14 @@ returns : tie.Need-returns
 returns c =
     let b = c .before .before .before .before .before .before .before in
     let p = b .pre in
-    let less : b .args .client < 16 = p .2 in
-    let few : b .args .me < 64 = p .3 in (
+    let less : b .args .client < maxClients = p .2 in
+    let few : b .args .me .0 < numbers = p .3 in (
       λ s u k m number client session op from h.
-          sessions-settled s u k m (b .args .me) (b .args .client) (b .args .session) number client session less few (b .args .sources) from
+          sessions-settled s u k m (b .args .me .0) (b .args .client) (b .args .session) number client session less few (b .args .sources) from
           (b .args .sessions .now) [] h (c .insert .result) (c .before .union .result) (c .insert .ensures) (c .before .union .ensures)
           (op .0 (c .before .before .before .before .if1 .taken)),
       λ s u k m number client session op from h.
-          commits-settled s u k m (b .args .me) (b .args .client) (b .args .session) number client session less few (b .args .sources) from
+          commits-settled s u k m (b .args .me .0) (b .args .client) (b .args .session) number client session less few (b .args .sources) from
           (b .args .sessions .now) (b .args .commits .now) h (c .insert .result) (c .before .union .result) (c .insert .ensures) (c .before .union .ensures)
           (op .0 (c .before .before .before .before .if1 .taken)),
     )
@@ -119,11 +120,11 @@ same-length-3 c = search needs
 returns-2 : tie.Need-returns-2
 returns-2 c =
     let b = c .before .before .before in
-    let few : b .args .me < 64 = b .pre .3 in
+    let few : b .args .me .0 < numbers = b .pre .3 in
     let idle : (k : Commit) → (b .args .operates ≡ true) ↔ Operates k → ¬ Operates k = λ k op o. false-true (sym (c .if1 .left) ∙ op .1 o) in (
       λ s u k m number client session op from h. idle-sessions s u k m (idle k op) (b .args .sessions .now) h,
       λ s u k m number client session op from h r.
-          commits-idle s u k m (b .args .me) (b .args .client) (b .args .session) number client session few (idle k op) (b .args .commits .now) r,
+          commits-idle s u k m (b .args .me .0) (b .args .client) (b .args .session) number client session few (idle k op) (b .args .commits .now) r,
     )
   where
     false-true : {X : Type 0} → _≡_ {A = Bool} false true → X

@@ -11,7 +11,7 @@ cast-result c = omega (arith, ones-le 64 (c .args .m) (c .fits .m .fits))
 
 returns : tie.Need-returns
 unfolding size
-returns c = refl
+returns c = (refl, ones-le 64 (c .args .m) (c .fits .m .fits))
 
 pub size-spec : {M : Type 1} → statement M
 size-spec = tie.close (tie.spec cast-result returns)

@@ -2,12 +2,13 @@
 use Prim.Native.Nat.{_+_, _^_, _≤_, _<_}
 use lib.ListN.{length}
 use borrow.Author.Needs.{needs}
+use Rattle.state.specs.Places.{numbers}
 use Rattle.state.proofs.Gathering.{Gathering, gathering-starts, gathering-on, gathering-ends}
 use Rattle.state.proofs.gather.Statement.{statement}
 use Rattle.state.proofs.gather.Tie as tie
 
 abbrev Inv-loop : tie.InvT-loop
-Inv-loop rows from set all₀ left₀ all left = (from + 64 ≤ length rows) × (left < 2 ^ 64) × Gathering rows from set all left
+Inv-loop rows from set all₀ left₀ all left = (from + numbers ≤ length rows) × (left < 2 ^ 64) × Gathering rows from set all left
 
 abbrev μ-loop : tie.MeasureT-loop
 μ-loop rows from set all₀ left₀ all left = left

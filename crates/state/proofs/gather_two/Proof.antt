@@ -2,13 +2,14 @@
 use borrow.Author.Needs.{needs}
 use Prim.Native.Nat.{_+_, _^_, _≤_, _<_}
 use lib.ListN.{length}
+use Rattle.state.specs.Places.{numbers}
 use Rattle.state.proofs.Gathering.{Gathering, gathering-starts, gathering-on, gathering-ends}
 use Rattle.state.proofs.gather_two.Statement.{statement}
 use Rattle.state.proofs.gather_two.Tie as tie
 
 abbrev Inv-loop : tie.InvT-loop
 Inv-loop rows one two set first₀ second₀ left₀ first second left =
-    (one + 64 ≤ length rows) × (two + 64 ≤ length rows) × (left < 2 ^ 64) × Gathering rows one set first left × Gathering rows two set second left
+    (one + numbers ≤ length rows) × (two + numbers ≤ length rows) × (left < 2 ^ 64) × Gathering rows one set first left × Gathering rows two set second left
 
 abbrev μ-loop : tie.MeasureT-loop
 μ-loop rows one two set first₀ second₀ left₀ first second left = left

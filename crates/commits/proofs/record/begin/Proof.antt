@@ -6,7 +6,8 @@ use lib.ListN.{length}
 use Rattle.store.specs.Limits.{maxKeys}
 use Rattle.store.specs.Update.{viewBefore}
 use Rattle.commits.specs.Records.{commitIn}
-use Rattle.commits.proofs.Begun.{masks-read, operations-read, early-given}
+use Rattle.shifts.proofs.Refused.{masks-read}
+use Rattle.commits.proofs.Begun.{operations-read, early-given}
 use borrow.Author.Needs.{needs}
 use Rattle.commits.proofs.record.begin.Statement.{statement}
 use Rattle.commits.proofs.record.begin.Tie as tie

@@ -1,12 +1,12 @@
 -- `judging::ending::finish` meets its contract: the image's size is what `image::size` says, so the buffer is too short exactly where code 15 is due. Assumes nothing.
 use Prim.Native.Nat.{_≤_, _<_}
-use mathlib.Core.Path.{_≡_, sym, _∙_, subst}
+use mathlib.Core.Path.{_≡_, _∙_, subst}
 use lib.ListN.{length}
-use borrow.Author.Needs.{needs}
 use denote.Ref.{now}
 use Rattle.store.specs.Image.{image}
 use Rattle.answer.specs.Answer.{finalStore}
-use Rattle.judging.proofs.Answered.{short-answer, judged-answer}
+use Rattle.judging.proofs.Answered.{short-answer, judged-answer, told-report}
+use borrow.Author.Needs.{needs}
 use Rattle.judging.proofs.ending.finish.Statement.{statement}
 use Rattle.judging.proofs.ending.finish.Tie as tie
 
@@ -15,26 +15,29 @@ size-requires c κs = search needs
 
 returns : tie.Need-returns
 returns c =
-    let start = c .before .before .before .before .before .before .before in
+    let sized = c .before in
+    let buffer = now (sized .before .before .before .before .before .args .buffer) in
     λ bytes t h.
-    let e : c .before .size .result ≡ length (image (finalStore t)) = c .before .size .ensures .1 (finalStore t) (h .in-keys) (h .all-keys) (h .all-commits) in
-    let a = short-answer bytes (now (start .args .buffer)) t (h .accepted) (subst (λ x. length (now (start .args .buffer)) < x) e (search needs)) in
-    (sym (a .said), sym (a .drawn))
+    let e : sized .size .result ≡ length (image (finalStore t)) = sized .size .ensures .1 (finalStore t) (h .in-keys) (h .all-keys) (h .all-commits) in
+    let a = short-answer bytes buffer t (h .accepted) (subst (λ x. length buffer < x) e (search needs)) in
+    (a .said, a .drawn)
 
-conclude-requires : tie.Need-conclude-requires
-conclude-requires c κs = search needs
+write-requires : tie.Need-write-requires
+write-requires c κs = search needs
 
 same-length : tie.Need-same-length
 same-length c = search needs
 
 returns-2 : tie.Need-returns-2
 returns-2 c =
-    let start = c .before .before .before .before .before .before .before .before .before .before .before in
+    let sized = c .before .before .before .before .before in
+    let buffer = now (sized .before .before .before .before .before .args .buffer) in
     λ bytes t h.
-    let e : c .before .before .before .before .before .size .result ≡ length (image (finalStore t)) = c .before .before .before .before .before .size .ensures .1 (finalStore t) (h .in-keys) (h .all-keys) (h .all-commits) in
-    let a = judged-answer bytes (now (start .args .buffer)) t (h .accepted) (subst (λ x. x ≤ length (now (start .args .buffer))) e (search needs)) in
-    let d = c .before .before .conclude .ensures bytes t h e in
-    (d .0 ∙ sym (a .said), d .1 ∙ sym (a .drawn))
+    let e : sized .size .result ≡ length (image (finalStore t)) = sized .size .ensures .1 (finalStore t) (h .in-keys) (h .all-keys) (h .all-commits) in
+    let a = judged-answer bytes buffer t (h .accepted) (subst (λ x. x ≤ length buffer) e (search needs)) in (
+      told-report t (h .told) (h .all-records) (h .all-commits) e ∙ a .said,
+      c .before .before .write .ensures (finalStore t) (h .in-versions) (h .in-keys) (h .in-commits) (h .sound) (h .clients-fit) (h .all-keys) (h .all-commits) ∙ a .drawn,
+    )
 
 pub finish-spec : {M : Type 1} → statement M
-finish-spec = tie.close (tie.spec size-requires returns conclude-requires same-length returns-2)
+finish-spec = tie.close (tie.spec size-requires returns write-requires same-length returns-2)

@@ -2,48 +2,43 @@
 use mathlib.Core.Path.{subst}
 use native.Mathlib.Omega.{arith}
 use Rattle.run.specs.OneRecord.{Readable}
-use Rattle.run.proofs.OneRecord.{goes-within, not-read, shift-one, no-room, commit-one}
+use Rattle.run.proofs.OneRecord.{shift-one, commit-one}
 use borrow.Author.Needs.{needs}
 use Rattle.run.proofs.one.one_record.Statement.{statement}
 use Rattle.run.proofs.one.one_record.Tie as tie
+
+-- where the function began, from where its record is known to be a shift, and from where it is known to be a commit
+abbrev before-shift : tie.After-r → tie.Start
+before-shift c = c .before .before .before .before .before .before .before .before .before .before .before .before .before
+
+abbrev before-commit : tie.After-r2 → tie.Start
+before-commit c = c .before .before .before .before .before .before .before .before .before .before .before .before .before
 
 enum-known-r : tie.Need-enum-known-r
 enum-known-r c = search needs
 
 shift-to-requires : tie.Need-shift-to-requires
 shift-to-requires c κs =
-    let (below, masks, next) = subst (Readable _ _) (c .before .before .before .before .before .before .r .given .1) (c .before .before .before .before .before .before .before .before .before .before .before .before .before .before .before .before .before .before .before .pre .0 .2) in
-    let p = c .before .before .before .before .before .before .before .before .before .before .before .before .before .before .before .before .before .before .before .pre in
+    let shift = c .before .before .before .before .before .before in
+    let p = before-shift shift .pre in
+    let (below, masks) = subst (Readable _ _ _) (shift .r .given .1) (p .0 .2) in
     ((p .0 .0, p .0 .1, below, masks), (p .1 .0, p .1 .1, p .1 .2, p .1 .3, p .0 .5))
-
-next-of-requires : tie.Need-next-of-requires
-next-of-requires c κs = search needs
 
 enum-known-r-2 : tie.Need-enum-known-r-2
 enum-known-r-2 c = search needs
 
-returns : tie.Need-returns
-returns c =
-    (tt, λ g fs clients e next f s. no-room _ _ _ _ _ (c .before .before .r2 .given .1) (omega arith) f)
-
 add-commit-to : tie.Need-add-commit-to
-add-commit-to c = search needs
+add-commit-to c =
+    let commit = c .before .before .before .before .before .before .before .before .before .before .before in
+    let (below, masks, operations, fit, room) = subst (Readable _ _ _) (commit .r2 .given .1) (before-commit commit .pre .0 .2) in
+    record { fits = omega arith }
 
 commit-to-requires : tie.Need-commit-to-requires
 commit-to-requires c κs =
-    let (below, masks, next, operations, fit) = subst (Readable _ _) (c .before .before .before .before .before .before .before .before .before .before .before .before .r2 .given .1) (c .before .before .before .before .before .before .before .before .before .before .before .before .before .before .before .before .before .before .before .before .before .before .before .before .before .pre .0 .2) in
-    let p = c .before .before .before .before .before .before .before .before .before .before .before .before .before .before .before .before .before .before .before .before .before .before .before .before .before .pre in
-    let room = c .before .before .before .before .before .before .before .before .before .before .if1 .left in
+    let commit = c .before .before .before .before .before .before .before .before .before .before .before in
+    let p = before-commit commit .pre in
+    let (below, masks, operations, fit, room) = subst (Readable _ _ _) (commit .r2 .given .1) (p .0 .2) in
     ((p .0 .0, p .0 .1, omega arith, below, masks, operations, fit), ((p .0 .4, p .0 .5, p .0 .3), p .1))
-
-add-next-of : tie.Need-add-next-of
-add-next-of c = search needs
-
-next-of-requires-2 : tie.Need-next-of-requires-2
-next-of-requires-2 c κs = search needs
-
-enum-told : tie.Need-enum-told
-enum-told c = search needs
 
 same-length : tie.Need-same-length
 same-length c = search needs
@@ -60,14 +55,11 @@ same-length-4 c = search needs
 same-length-5 : tie.Need-same-length-5
 same-length-5 c = search needs
 
-returns-2 : tie.Need-returns-2
-returns-2 c =
-    let is = c .before .before .before .before .before .before .before .before .before .before .before .before .before .before .r .given .1 in
-    let (below, masks, inside) = subst (Readable _ _) is (c .before .before .before .before .before .before .before .before .before .before .before .before .before .before .before .before .before .before .before .before .before .before .before .before .before .before .before .pre .0 .2) in
-    let done = c .before .before .before .before .before .before .before .shift-to .ensures in (
-      goes-within _ _ (c .next-of .ensures) inside,
-      λ g fs clients e next f s. shift-one _ _ _ _ _ _ is _ _ (done .0) (done .1) g fs s clients e next f (c .next-of .ensures),
-    )
+returns : tie.Need-returns
+returns c =
+    let shift = c .before .before .before .before .before .before .before .before .before .before .before .before .before in
+    let done = c .before .before .before .before .before .before .shift-to .ensures in
+    λ g fs clients f s. shift-one _ _ _ _ _ (shift .r .given .1) _ _ (done .0) (done .1) g fs s clients f
 
 same-length-6 : tie.Need-same-length-6
 same-length-6 c = search needs
@@ -99,18 +91,12 @@ same-length-14 c = search needs
 same-length-15 : tie.Need-same-length-15
 same-length-15 c = search needs
 
-returns-3 : tie.Need-returns-3
-returns-3 c =
-    let is = c .before .before .before .before .before .before .before .before .before .before .before .before .before .before .before .before .before .before .before .before .before .before .before .before .before .before .before .before .before .before .before .before .before .before .r2 .given .1 in
-    let (below, masks, inside, operations, fit) = subst (Readable _ _) is (c .before .before .before .before .before .before .before .before .before .before .before .before .before .before .before .before .before .before .before .before .before .before .before .before .before .before .before .before .before .before .before .before .before .before .before .before .before .before .before .before .before .before .before .before .before .before .before .pre .0 .2) in
-    let done = c .before .before .before .before .before .before .before .before .before .before .before .before .before .before .before .before .before .before .before .before .before .commit-to .ensures in (
-      goes-within _ _ (c .next-of2 .ensures) inside,
-      λ g fs clients e next f s. commit-one _ _ (record { client = _; count = _; session = _; operations = _; masks = _ }) _ _ is _ _ _ done g fs s clients e next f (c .next-of2 .ensures),
-    )
-
-returns-4 : tie.Need-returns-4
-returns-4 c =
-    (tt, λ g fs clients e next f s. not-read _ (c .enum-told .given .1) f)
+returns-2 : tie.Need-returns-2
+returns-2 c =
+    let commit = c .before .before .before .before .before .before .before .before .before .before .before .before .before .before .before .before .before .before .before .before .before .before .before .before .before .before .before .before .before .before .before .before in
+    let (below, masks, operations, fit, room) = subst (Readable _ _ _) (commit .r2 .given .1) (before-commit commit .pre .0 .2) in
+    λ g fs clients f s.
+    commit-one _ _ (record { client = _; count = _; session = _; operations = _; masks = _ }) _ (commit .r2 .given .1) _ _ _ (c .before .before .before .before .before .before .before .before .before .before .before .before .before .before .before .before .before .before .before .before .commit-to .ensures) g fs s room clients f
 
 pub one-record-spec : {M : Type 1} → statement M
 one-record-spec =
@@ -118,20 +104,15 @@ one-record-spec =
     (tie.spec
     enum-known-r
     shift-to-requires
-    next-of-requires
     enum-known-r-2
-    returns
     add-commit-to
     commit-to-requires
-    add-next-of
-    next-of-requires-2
-    enum-told
     same-length
     same-length-2
     same-length-3
     same-length-4
     same-length-5
-    returns-2
+    returns
     same-length-6
     same-length-7
     same-length-8
@@ -142,5 +123,4 @@ one-record-spec =
     same-length-13
     same-length-14
     same-length-15
-    returns-3
-    returns-4)
+    returns-2)

@@ -1,14 +1,49 @@
 -- `shifts::shift::shift_on` meets its contract. Assumes nothing.
-use mathlib.Core.Path.{refl, sym, ap, subst, _∙_}
+use Prim.Native.Nat.{_*_}
+use mathlib.Core.Path.{_≡_, refl, sym, ap, subst, _∙_}
+use lib.ListN.{getD}
 use native.Mathlib.Omega.{arith}
 use Rattle.search.proofs.Tests.{true-T}
+use Rattle.store.specs.Limits.{maxKeys}
+use Rattle.store.specs.Store.{View, Configuration}
+use Rattle.store.specs.Missing.{missing}
+use Rattle.store.specs.Refusal.{allOf}
 use Rattle.state.specs.Answers.{placeOf}
-use Rattle.shifts.specs.Outcomes.{SightSays}
+use Rattle.state.specs.Keeps.{KeepsMasks}
+use Rattle.views.specs.Viewed.{NewMasks}
+use Rattle.shifts.specs.Outcomes.{SightSays, ShiftGiven}
 use Rattle.shifts.proofs.Replaced.{shift-replaces}
-use Rattle.shifts.proofs.Refused.{refused-10, refused-11, refused-12, not-refused, not-taken, masks-given}
+use Rattle.shifts.proofs.Refused.{refused-masks, refused-12, not-refused, not-taken, masks-given}
 use borrow.Author.Needs.{needs}
 use Rattle.shifts.proofs.shift.shift_on.Statement.{statement}
 use Rattle.shifts.proofs.shift.shift_on.Tie as tie
+
+-- ---- places on the way
+
+-- where the function begins, from where its masks were tested
+abbrev entry : tie.After-sight → tie.Start
+entry c = c .before .before .before .before .before .before .before .before .before .before
+
+-- where they were tested, from where they were found to hold all versions of the client's view
+abbrev tested : tie.After-lost → tie.After-sight
+tested c = c .before .before .before .before .before
+
+-- what is given there
+abbrev Given : tie.Start → Configuration → View → Type 0
+Given c g u = let a = c .args in ShiftGiven g u (a .n) (a .versions .now) (a .keys .now) (a .views .now) (a .seen .now) × KeepsMasks (a .n) u (a .fresh .now)
+
+given-masks : (c : tie.After-sight) (g : Configuration) (u : View) → Given (entry c) g u → let a = entry c .args in
+    NewMasks (g .store) (g .views (a .client)) u (a .n) (a .versions .now) (a .keys .now) (a .views .now) (maxKeys * a .client) (getD (a .seen .now) (a .client) 0) (a .fresh .now)
+given-masks c g u (h, f) = masks-given g u _ _ _ _ _ _ _ (omega (arith, entry c .pre .0)) h f
+
+said : (c : tie.After-sight) (g : Configuration) (u : View) → Given (entry c) g u → SightSays (entry c .args .number) (g .store) u (c .sight .result)
+said c g u h = c .sight .ensures (g .store) (g .views _) u (given-masks c g u h)
+
+lost-is : (c : tie.After-lost) (g : Configuration) (u : View) → Given (entry (tested c)) g u
+    → placeOf (c .lost .result) ≡ missing (g .store) (allOf (g .views (entry (tested c) .args .client))) u
+lost-is c g u (h, f) = c .lost .ensures (g .store) (g .views _) u (h .keys-are) (h .sound .views _) (given-masks (tested c) g u (h, f) .arrays .in-masks) f
+
+-- ---- what is needed
 
 same-requires : tie.Need-same-requires
 same-requires c κs = search needs
@@ -24,8 +59,8 @@ same-length-2 c = search needs
 
 returns : tie.Need-returns
 returns c = (
-  λ g u i h. c .before .before .before .before .whole-store .ensures .0 g u _ i h,
-  λ g u h. c .before .before .before .before .whole-store .ensures .1 g u _ h,
+  λ g u h f. c .before .before .before .before .whole-store .ensures .0 g u _ _ h f,
+  λ g u h f. c .before .before .before .before .whole-store .ensures .1 g u _ h f,
 )
 
 mul-base : tie.Need-mul-base
@@ -40,11 +75,8 @@ slice-read-sight c = search needs
 sight-requires : tie.Need-sight-requires
 sight-requires c κs = search needs
 
-enum-known-k : tie.Need-enum-known-k
-enum-known-k c = search needs
-
-enum-known-k-2 : tie.Need-enum-known-k-2
-enum-known-k-2 c = search needs
+enum-known-r : tie.Need-enum-known-r
+enum-known-r c = search needs
 
 enum-known-m : tie.Need-enum-known-m
 enum-known-m c = search needs
@@ -52,19 +84,21 @@ enum-known-m c = search needs
 lost-requires : tie.Need-lost-requires
 lost-requires c κs = search needs
 
-enum-known-k-3 : tie.Need-enum-known-k-3
-enum-known-k-3 c = search needs
+enum-known-k : tie.Need-enum-known-k
+enum-known-k c = search needs
+
+of-version-requires : tie.Need-of-version-requires
+of-version-requires c κs = search needs
 
 same-length-3 : tie.Need-same-length-3
 same-length-3 c = search needs
 
 returns-2 : tie.Need-returns-2
-returns-2 c = (
-  λ g u i h.
-      let given = masks-given g u _ _ _ _ _ _ _ (omega arith) h in
-      let x = subst (SightSays (g .store) u) (c .before .before .before .before .before .before .m .given .1) (c .before .before .before .before .before .before .before .before .sight .ensures (g .store) (g .views _) u given) in
-      refused-12 i g _ u _ (x .0) (x .1) (sym (c .before .before .before .lost .ensures (g .store) (g .views _) u (h .keys-are) (h .sound .views _) (given .arrays .in-masks) (h .in-fresh)) ∙ ap placeOf (c .before .k3 .given .1)),
-  λ g u h. not-taken _ refl,
+returns-2 c = let lost = c .before .before .before .before in (
+  λ g u h f.
+      refused-12 _ g _ u (subst (SightSays _ (g .store) u) (lost .before .before .before .m .given .1) (said (tested lost) g u (h, f)) .0)
+      (sym (lost-is lost g u (h, f)) ∙ ap placeOf (c .before .before .k .given .1)) (c .of-version .ensures),
+  λ g u h f. not-taken _ refl,
 )
 
 enum-told : tie.Need-enum-told
@@ -84,37 +118,23 @@ same-length-4 c = search needs
 
 returns-3 : tie.Need-returns-3
 returns-3 c = (
-  λ g u i h. refused-10 i g _ u _ (subst (SightSays (g .store) u) (c .before .k .given .1) (c .before .before .before .sight .ensures (g .store) (g .views _) u (masks-given g u _ _ _ _ _ _ _ (omega arith) h))),
-  λ g u h. not-taken _ refl,
+  λ g u h f. refused-masks _ g _ u (subst (SightSays _ (g .store) u) (c .before .r .given .1) (said (c .before .before .before) g u (h, f))),
+  λ g u h f. not-taken _ refl,
 )
 
 same-length-5 : tie.Need-same-length-5
 same-length-5 c = search needs
 
-returns-4 : tie.Need-returns-4
-returns-4 c = (
-  λ g u i h.
-      let x = subst (SightSays (g .store) u) (c .before .k2 .given .1) (c .before .before .before .sight .ensures (g .store) (g .views _) u (masks-given g u _ _ _ _ _ _ _ (omega arith) h)) in
-      refused-11 i g _ u _ (x .0) (x .1),
-  λ g u h. not-taken _ refl,
-)
-
 same-length-6 : tie.Need-same-length-6
 same-length-6 c = search needs
 
-same-length-7 : tie.Need-same-length-7
-same-length-7 c = search needs
-
-returns-5 : tie.Need-returns-5
-returns-5 c = let small = c .before .before .before .before .before .before .before .before .before .before .before .before .before .before .before .before .before .before .before .before .before .pre .0 in (
-  λ g u i h.
-      let given = masks-given g u _ _ _ _ _ _ _ (omega (arith, small)) h in
-      let x = subst (SightSays (g .store) u) (c .before .before .before .before .before .before .before .before .before .m .given .1) (c .before .before .before .before .before .before .before .before .before .before .before .sight .ensures (g .store) (g .views _) u given) in
-      not-refused i g _ u (x .0) (x .1) (sym (c .before .before .before .before .before .before .lost .ensures (g .store) (g .views _) u (h .keys-are) (h .sound .views _) (given .arrays .in-masks) (h .in-fresh)) ∙ ap placeOf (c .before .before .before .before .enum-told .given .1)),
-  λ g u h e.
-      let x = subst (SightSays (g .store) u) (c .before .before .before .before .before .before .before .before .before .m .given .1) (c .before .before .before .before .before .before .before .before .before .before .before .sight .ensures (g .store) (g .views _) u (masks-given g u _ _ _ _ _ _ _ (omega (arith, small)) h)) in
-      shift-replaces g _ u _ (omega (arith, small)) (h .keys-are) (omega (arith, small)) _ _ _ _ _ (h .in-views) (h .in-fresh) (c .before .before .keep .ensures) (x .2),
-)
+returns-4 : tie.Need-returns-4
+returns-4 c =
+    let lost = c .before .before .before .before .before .before in
+    let small = entry (tested lost) .pre .0 in (
+      λ g u h f. not-refused _ g _ u (subst (SightSays _ (g .store) u) (lost .before .before .before .m .given .1) (said (tested lost) g u (h, f)) .0) (sym (lost-is lost g u (h, f)) ∙ ap placeOf (c .before .before .before .before .enum-told .given .1)),
+      λ g u h f e. shift-replaces g _ u _ (omega (arith, small)) (h .keys-are) (omega (arith, small)) _ _ _ _ _ (h .in-views) f (c .before .before .keep .ensures) (subst (SightSays _ (g .store) u) (lost .before .before .before .m .given .1) (said (tested lost) g u (h, f)) .1),
+    )
 
 pub shift-on-spec : {M : Type 1} → statement M
 shift-on-spec =
@@ -129,11 +149,11 @@ shift-on-spec =
     mul-sight
     slice-read-sight
     sight-requires
-    enum-known-k
-    enum-known-k-2
+    enum-known-r
     enum-known-m
     lost-requires
-    enum-known-k-3
+    enum-known-k
+    of-version-requires
     same-length-3
     returns-2
     enum-told
@@ -143,7 +163,5 @@ shift-on-spec =
     same-length-4
     returns-3
     same-length-5
-    returns-4
     same-length-6
-    same-length-7
-    returns-5)
+    returns-4)

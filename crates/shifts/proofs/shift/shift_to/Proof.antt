@@ -1,6 +1,6 @@
 -- `shifts::shift::shift_to` meets its contract. Assumes nothing.
 use native.Mathlib.Omega.{arith}
-use Rattle.shifts.proofs.Refused.{shift-to}
+use Rattle.shifts.proofs.Refused.{masks-read}
 use borrow.Author.Needs.{needs}
 use Rattle.shifts.proofs.shift.shift_to.Statement.{statement}
 use Rattle.shifts.proofs.shift.shift_to.Tie as tie
@@ -22,8 +22,8 @@ same-length-3 c = search needs
 
 returns : tie.Need-returns
 returns c = (
-  λ g i h. c .before .before .before .before .shift-on .ensures .0 g _ i (shift-to g _ _ _ _ _ _ _ _ _ h (omega arith) (c .before .before .before .before .before .before .before .before .before .before .masks-into .ensures .0)),
-  λ g h. c .before .before .before .before .shift-on .ensures .1 g _ (shift-to g _ _ _ _ _ _ _ _ _ h (omega arith) (c .before .before .before .before .before .before .before .before .before .before .masks-into .ensures .0)),
+  λ g h. c .before .before .before .before .shift-on .ensures .0 g _ h (masks-read _ _ _ _ (omega arith) (c .before .before .before .before .before .before .before .before .before .before .masks-into .ensures .0)),
+  λ g h. c .before .before .before .before .shift-on .ensures .1 g _ h (masks-read _ _ _ _ (omega arith) (c .before .before .before .before .before .before .before .before .before .before .masks-into .ensures .0)),
 )
 
 pub shift-to-spec : {M : Type 1} → statement M

@@ -28,8 +28,8 @@ same-length-2 c = search needs
 
 returns : tie.Need-returns
 returns c = (
-  λ g u versions i h. whole-not-refused g u _ _ versions _ _ _ _ h (c .before .before .before .before .before .before .before .before .before .pre .1) i,
-  λ g u versions h _. whole-kept g u _ _ versions _ _ _ _ h (c .before .before .before .before .before .before .before .before .before .pre .1) (omega arith) (omega arith) _ (c .before .before .before .keep .ensures) (c .all-writers .ensures),
+  λ g u versions i h f. whole-not-refused g u _ _ versions _ _ _ _ h f (c .before .before .before .before .before .before .before .before .before .pre .1) i,
+  λ g u versions h f _. whole-kept g u _ _ versions _ _ _ _ h f (c .before .before .before .before .before .before .before .before .before .pre .1) (omega arith) (omega arith) _ (c .before .before .before .keep .ensures) (c .all-writers .ensures),
 )
 
 pub whole-store-spec : {M : Type 1} → statement M

@@ -1,7 +1,7 @@
 -- `trace::records::commit_at` meets its contract: the tests are those of commitAt, in their order. Assumes nothing.
 use Rattle.trace.specs.Format.{commitAt}
 use Rattle.search.proofs.Steps.{need-met, need-unmet, tests}
-use Rattle.trace.specs.Meaning.{meaning, PlacesFit}
+use Rattle.trace.specs.Meaning.{entryOf, readingOf, PlacesFit}
 use borrow.Author.Needs.{needs}
 use Rattle.trace.proofs.records.commit_at.Statement.{statement}
 use Rattle.trace.proofs.records.commit_at.Tie as tie
@@ -10,7 +10,7 @@ add-if1 : tie.Need-add-if1
 add-if1 c = search needs
 
 returns : tie.Need-returns
-unfolding commitAt meaning PlacesFit
+unfolding commitAt entryOf readingOf PlacesFit
 returns c = (λ n. need-unmet _ _ _ (omega tests), tt)
 
 add-byte-at : tie.Need-add-byte-at
@@ -23,7 +23,7 @@ commit-of-requires : tie.Need-commit-of-requires
 commit-of-requires c κs = search needs
 
 returns-2 : tie.Need-returns-2
-unfolding commitAt meaning PlacesFit
+unfolding commitAt entryOf readingOf PlacesFit
 returns-2 c = (λ n. let said = c .commit-of .ensures .0 n in need-met _ _ _ (omega tests) (cc), c .commit-of .ensures .1)
 
 pub commit-at-spec : {M : Type 1} → statement M

@@ -25,17 +25,17 @@ u16-at-requires c κs = omega (arith, six-bytes (c .before .before .pre .1))
 to-shift-end : (c : tie.Then1) → let a = c .before .before .before .before .args in a .at + shiftLength (a .keys) ≤ length (now (a .s))
 to-shift-end c = shift-within (c .before .before .before .before .pre .1) (omega arith)
 
-add-t10 : tie.Need-add-t10
-add-t10 c = omega (arith, to-shift-end c)
-
-mul-t11 : tie.Need-mul-t11
-mul-t11 c = omega (arith, to-shift-end c)
-
 add-t12 : tie.Need-add-t12
 add-t12 c = omega (arith, to-shift-end c)
 
+mul-t12 : tie.Need-mul-t12
+mul-t12 c = omega (arith, to-shift-end c)
+
 add-t13 : tie.Need-add-t13
 add-t13 c = omega (arith, to-shift-end c)
+
+add-t14 : tie.Need-add-t14
+add-t14 c = omega (arith, to-shift-end c)
 
 returns : tie.Need-returns
 returns c = λ clients f. shift-known f (omega arith) (c .before .before .byte-at .ensures .0)
@@ -65,14 +65,14 @@ add-u32-at c = omega (arith, to-commit-end c)
 u32-at-requires : tie.Need-u32-at-requires
 u32-at-requires c κs = omega (arith, to-commit-end c)
 
-add-t14 : tie.Need-add-t14
-add-t14 c = omega (arith, to-commit-end (c .before))
+add-t15 : tie.Need-add-t15
+add-t15 c = omega (arith, to-commit-end (c .before))
 
-mul-t16 : tie.Need-mul-t16
-mul-t16 c = omega (arith, to-commit-end (c .before))
+mul-t9 : tie.Need-mul-t9
+mul-t9 c = omega (arith, to-commit-end (c .before))
 
-add-t17 : tie.Need-add-t17
-add-t17 c = omega (arith, to-commit-end (c .before))
+add-t15-2 : tie.Need-add-t15-2
+add-t15-2 c = omega (arith, to-commit-end (c .before))
 
 returns-2 : tie.Need-returns-2
 returns-2 c = λ clients f. commit-known f (λ e. omega arith) (c .before .before .before .before .byte-at .ensures .0) (c .before .byte-at2 .ensures .0) (c .u32-at .ensures) (omega arith)
@@ -85,10 +85,10 @@ known-at-spec =
     byte-at-requires
     add-u16-at
     u16-at-requires
-    add-t10
-    mul-t11
     add-t12
+    mul-t12
     add-t13
+    add-t14
     returns
     add-byte-at-2
     byte-at-requires-2
@@ -97,7 +97,7 @@ known-at-spec =
     add-masks-2
     add-u32-at
     u32-at-requires
-    add-t14
-    mul-t16
-    add-t17
+    add-t15
+    mul-t9
+    add-t15-2
     returns-2)

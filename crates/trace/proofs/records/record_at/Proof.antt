@@ -2,7 +2,7 @@
 use mathlib.Core.Path.{refl}
 use Rattle.trace.specs.Format.{recordAt}
 use Rattle.search.proofs.Steps.{need-met, need-unmet, choose-first, choose-second, tests}
-use Rattle.trace.specs.Meaning.{meaning, PlacesFit}
+use Rattle.trace.specs.Meaning.{entryOf, readingOf, PlacesFit}
 use borrow.Author.Needs.{needs}
 use Rattle.trace.proofs.records.record_at.Statement.{statement}
 use Rattle.trace.proofs.records.record_at.Tie as tie
@@ -11,7 +11,7 @@ add-if1 : tie.Need-add-if1
 add-if1 c = search needs
 
 returns : tie.Need-returns
-unfolding recordAt meaning PlacesFit
+unfolding recordAt entryOf readingOf PlacesFit
 returns c = (λ n. need-unmet _ _ _ (omega tests), tt)
 
 add-u16-at : tie.Need-add-u16-at
@@ -35,7 +35,7 @@ unfolding recordAt
 returns-3 c = (λ n. need-met _ _ _ (omega tests) (choose-second _ _ _ (omega tests) (choose-first _ _ _ (omega tests) (c .commit-at .ensures .0 n))), c .commit-at .ensures .1)
 
 returns-4 : tie.Need-returns-4
-unfolding recordAt meaning PlacesFit
+unfolding recordAt entryOf readingOf PlacesFit
 returns-4 c = (λ n. need-met _ _ _ (omega tests) (choose-second _ _ _ (omega tests) (choose-second _ _ _ (omega tests) refl)), tt)
 
 pub record-at-spec : {M : Type 1} → statement M

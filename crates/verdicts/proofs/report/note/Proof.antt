@@ -1,25 +1,23 @@
 -- `verdicts::report::note` meets its contract. The loop's invariant: the levels before this one have been noted. Assumes nothing.
 use Prim.Native.Nat.{ℕ, _-_, _≤_}
-use mathlib.Core.Path.{_≡_}
 use mathlib.Core.List.{List}
-use lib.ListN.{length}
 use borrow.Author.Needs.{needs}
 use Rattle.store.specs.Store.{Store, View, Commit}
 use Rattle.levels.specs.Level.{clausesOf, failsClauses}
 use Rattle.verdicts.specs.AtHand.{Judging}
-use Rattle.verdicts.specs.Verdicts.{levelAt, FailingClauses}
+use Rattle.verdicts.specs.Verdicts.{levelCount, levelAt, VerdictsRoom, FailingClauses}
 use Rattle.verdicts.proofs.Noted.{Noted, noted-none, noted-on, noted-all}
 use Rattle.verdicts.proofs.report.note.Statement.{statement}
 use Rattle.verdicts.proofs.report.note.Tie as tie
 
 abbrev Inv-loop : tie.InvT-loop
-Inv-loop verdicts₀ failing number w lost own seen ranks versions keys views base n level₀ verdicts level =
-    (level ≤ 10) × (length verdicts ≡ 40)
-    × ((s : Store) (u : View) (c : Commit) (values : List ℕ) → Judging s u c w lost own seen ranks values versions keys views base n → FailingClauses s u c failing
+Inv-loop verdicts₀ failing number h versions keys views base n level₀ verdicts level =
+    (level ≤ levelCount) × VerdictsRoom verdicts
+    × ((s : Store) (u : View) (c : Commit) (values : List ℕ) → Judging s u c h values versions keys views base n → FailingClauses s u c failing
     → Noted (λ i. failsClauses number s u c (clausesOf (levelAt i))) level verdicts₀ verdicts)
 
 abbrev μ-loop : tie.MeasureT-loop
-μ-loop verdicts₀ failing number w lost own seen ranks versions keys views base n level₀ verdicts level = 10 - level
+μ-loop verdicts₀ failing number h versions keys views base n level₀ verdicts level = levelCount - level
 
 loop-holds : tie.Need-loop-holds Inv-loop μ-loop
 loop-holds c = (search needs, search needs, λ s u commit values j h. noted-none _ _)

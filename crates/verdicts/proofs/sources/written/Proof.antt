@@ -2,15 +2,24 @@
 -- and the keys from k on that are written are left. Assumes nothing.
 use Prim.Native.Nat.{ℕ, _+_, _/_, _≤_, _<_}
 use mathlib.Core.Path.{ap}
+use mathlib.Core.List.{List}
+use lib.ListN.{getD}
 use native.Mathlib.Omega.{arith}
 use borrow.Author.Needs.{needs}
+use Rattle.sets.specs.Set.{Set}
+use Rattle.store.specs.Store.{Key}
+use Rattle.state.specs.Places.{writersPlace}
 use Rattle.state.specs.Accesses.{Left}
 use Rattle.state.specs.Keeps.{IsSet}
 use Rattle.state.proofs.Accesses.{next-key, left-rest, left-none}
+use Rattle.state.proofs.Below.{RowWith, from-none, keys-turn, keys-passed}
 use Rattle.verdicts.specs.Sources.{InKeys}
-use Rattle.verdicts.proofs.Gathering.{in-keys-none, in-keys-turn, in-keys-passed}
 use Rattle.verdicts.proofs.sources.written.Statement.{statement}
 use Rattle.verdicts.proofs.sources.written.Tie as tie
+
+-- the writers of each key
+abbrev row : List ℕ → Key → Set
+row keys k = getD keys (writersPlace k) 0
 
 abbrev Inv-loop : tie.InvT-loop
 Inv-loop keys ranks n all₀ left₀ all left = (k : ℕ) × (k ≤ n) × Left ranks 1 n k left × IsSet all (InKeys keys ranks k)
@@ -22,7 +31,7 @@ keys-with-requires : tie.Need-keys-with-requires Inv-loop μ-loop
 keys-with-requires c κs = search needs
 
 loop-holds : tie.Need-loop-holds Inv-loop μ-loop
-loop-holds c = let a = c .before .before .args in (0, omega arith, c .keys-with .ensures, in-keys-none (a .keys .now) (a .ranks))
+loop-holds c = let a = c .before .before .args in (0, omega arith, c .keys-with .ensures, from-none (RowWith (row (a .keys .now)) (a .ranks) 1))
 
 lowest-requires : tie.Need-lowest-requires Inv-loop μ-loop
 lowest-requires c κs = search needs
@@ -55,14 +64,14 @@ loop-again c =
       c .before .before .before .lowest .result / 2 + 1,
       omega (arith, k .1),
       left-rest (l .inv .2) p q (c .rest .ensures .0),
-      in-keys-turn (a .keys .now) (a .ranks) _ (l .inv .3) (k .0) (k .3) (k .2) (c .before .union .ensures),
+      keys-turn (row (a .keys .now)) (a .ranks) 1 _ (l .inv .3) (k .0) (k .3) (k .2) (c .before .union .ensures),
     )
 
 returns : tie.Need-returns Inv-loop μ-loop
 returns c =
     let a = c .before .before .before .before .args in
     let l = c .before .loop in
-    in-keys-passed (a .keys .now) (a .ranks) _ (l .inv .3) (l .inv .1) (left-none (l .inv .2) (c .loop-test .left))
+    keys-passed (row (a .keys .now)) (a .ranks) 1 _ (l .inv .3) (l .inv .1) (left-none (l .inv .2) (c .loop-test .left))
 
 pub written-spec : {M : Type 1} → statement M
 written-spec =

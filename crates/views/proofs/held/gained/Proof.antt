@@ -4,6 +4,7 @@ use mathlib.Core.Path.{_≡_}
 use native.Mathlib.Omega.{arith}
 use lib.ListN.{length-set, length}
 use borrow.Author.Needs.{needs}
+use Rattle.store.specs.Limits.{maxKeys}
 use Rattle.views.specs.Gained.{Gains}
 use Rattle.views.proofs.Gathered.{gains-none, gains-more}
 use Rattle.views.proofs.held.gained.Statement.{statement}
@@ -11,7 +12,7 @@ use Rattle.views.proofs.held.gained.Tie as tie
 
 abbrev Inv-loop : tie.InvT-loop
 Inv-loop versions fresh masks base gain₀ n all₀ k₀ gain all k =
-    (k ≤ n) × (length gain ≡ 16) × Gains versions fresh masks base k gain all
+    (k ≤ n) × (length gain ≡ maxKeys) × Gains versions fresh masks base k gain all
 
 abbrev μ-loop : tie.MeasureT-loop
 μ-loop versions fresh masks base gain₀ n all₀ k₀ gain all k = n - k

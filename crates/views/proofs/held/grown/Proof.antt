@@ -22,9 +22,9 @@ union-requires : tie.Need-union-requires
 union-requires c κs = search needs
 
 returns : tie.Need-returns
-returns c = λ s old u m grows. (
-  none-half s old u _ _ _ _ _ _ _ m grows _ _ (c .before .before .before .before .before .gained .ensures .1) (c .before .before .lacking .result) (c .before .before .lacking .ensures) (c .if1 .taken),
-  grown-holds s old u _ _ _ _ _ _ _ m grows _ _ (c .before .before .before .before .before .gained .ensures .1) (c .before .before .lacking .result) (c .before .before .lacking .ensures) (c .before .union .ensures),
+returns c = λ s old u m good grows. (
+  none-half s old u _ _ _ _ _ _ _ m good grows _ _ (c .before .before .before .before .before .gained .ensures .1) (c .before .before .lacking .result) (c .before .before .lacking .ensures) (c .if1 .taken),
+  grown-holds s old u _ _ _ _ _ _ _ m good grows _ _ (c .before .before .before .before .before .gained .ensures .1) (c .before .before .lacking .result) (c .before .before .lacking .ensures) (c .before .union .ensures),
 )
 
 least-by-writer-requires : tie.Need-least-by-writer-requires
@@ -37,13 +37,13 @@ enum-told : tie.Need-enum-told
 enum-told c = search needs
 
 returns-2 : tie.Need-returns-2
-returns-2 c = λ s old u m grows.
-    half-same s old u _ _ _ _ _ _ _ m grows _ _ (c .before .before .before .before .before .before .before .before .before .gained .ensures .1) (c .before .before .before .before .before .before .lacking .result) (c .before .before .before .before .before .before .lacking .ensures) ∙ sym (c .before .before .before .least-by-writer .ensures s u (with-fresh s old u _ _ _ _ _ _ _ m)) ∙ ap placeOf (c .before .k .given .1)
+returns-2 c = λ s old u m good grows.
+    half-same s old u _ _ _ _ _ _ _ m good grows _ _ (c .before .before .before .before .before .before .before .before .before .gained .ensures .1) (c .before .before .before .before .before .before .lacking .result) (c .before .before .before .before .before .before .lacking .ensures) ∙ sym (c .before .before .before .least-by-writer .ensures s u (with-fresh s old u _ _ _ _ _ _ _ m good)) ∙ ap placeOf (c .before .k .given .1)
 
 returns-3 : tie.Need-returns-3
-returns-3 c = λ s old u m grows. (
-  half-same s old u _ _ _ _ _ _ _ m grows _ _ (c .before .before .before .before .before .before .before .before .gained .ensures .1) (c .before .before .before .before .before .lacking .result) (c .before .before .before .before .before .lacking .ensures) ∙ sym (c .before .before .least-by-writer .ensures s u (with-fresh s old u _ _ _ _ _ _ _ m)) ∙ ap placeOf (c .enum-told .given .1),
-  grown-holds s old u _ _ _ _ _ _ _ m grows _ _ (c .before .before .before .before .before .before .before .before .gained .ensures .1) (c .before .before .before .before .before .lacking .result) (c .before .before .before .before .before .lacking .ensures) (c .before .before .before .before .union .ensures),
+returns-3 c = λ s old u m good grows. (
+  half-same s old u _ _ _ _ _ _ _ m good grows _ _ (c .before .before .before .before .before .before .before .before .gained .ensures .1) (c .before .before .before .before .before .lacking .result) (c .before .before .before .before .before .lacking .ensures) ∙ sym (c .before .before .least-by-writer .ensures s u (with-fresh s old u _ _ _ _ _ _ _ m good)) ∙ ap placeOf (c .enum-told .given .1),
+  grown-holds s old u _ _ _ _ _ _ _ m good grows _ _ (c .before .before .before .before .before .before .before .before .gained .ensures .1) (c .before .before .before .before .before .lacking .result) (c .before .before .before .before .before .lacking .ensures) (c .before .before .before .before .union .ensures),
 )
 
 pub grown-spec : {M : Type 1} → statement M

@@ -18,7 +18,7 @@ all-writers-requires : tie.Need-all-writers-requires
 all-writers-requires c κs = search needs
 
 returns : tie.Need-returns
-returns c = λ s old u m.
+returns c = λ s old u m good.
     let e = c .before .before .same .ensures .0 (true-T _ (c .before .if1 .taken)) in
     (full-not-half s old u _ _ _ _ _ _ _ m e, full-holds-all s u _ _ _ (m .arrays .number) (m .arrays .sound) (m .arrays .in-keys) (m .in-fresh) e (c .all-writers .result) (c .all-writers .ensures))
 
@@ -26,7 +26,7 @@ same-requires-2 : tie.Need-same-requires-2
 same-requires-2 c κs = search needs
 
 returns-2 : tie.Need-returns-2
-returns-2 c = λ s old u m.
+returns-2 c = λ s old u m good.
     let e = c .before .same2 .ensures .0 (true-T _ (c .if2 .taken)) in
     (same-not-half s old u _ _ _ _ _ _ _ m e, same-holds s old u _ _ _ _ _ _ _ m e)
 
@@ -37,9 +37,9 @@ split-requires : tie.Need-split-requires
 split-requires c κs = search needs
 
 returns-3 : tie.Need-returns-3
-returns-3 c = λ s old u m.
-    let x = c .before .before .split .ensures s old u _ _ _ m (c .before .before .before .before .prefixes .ensures (c .before .before .before .if3 .taken)) in
-    (apart-not-half s old u _ _ _ _ _ _ _ m _ _ (x .0) (x .1) (c .if4 .taken), x .0)
+returns-3 c = λ s old u m good.
+    let x = c .before .before .split .ensures s old u _ _ _ m good (c .before .before .before .before .prefixes .ensures (c .before .before .before .if3 .taken)) in
+    (apart-not-half s old u _ _ _ _ _ _ _ m good _ _ (x .0) (x .1) (c .if4 .taken), x .0)
 
 lost-requires : tie.Need-lost-requires
 lost-requires c κs = search needs
@@ -51,9 +51,9 @@ grown-requires : tie.Need-grown-requires
 grown-requires c κs = search needs
 
 returns-4 : tie.Need-returns-4
-returns-4 c = λ s old u m.
-    c .grown .ensures s old u m
-    (nothing-lost s old u _ _ _ _ _ _ _ m (sym (ap placeOf (c .before .enum-told .given .1)) ∙ c .before .before .before .lost .ensures s old u (m .arrays .number) (m .view) (m .arrays .in-masks) (m .in-fresh)))
+returns-4 c = λ s old u m good.
+    c .grown .ensures s old u m good
+    (nothing-lost s old u _ _ _ _ _ _ _ m good (sym (ap placeOf (c .before .enum-told .given .1)) ∙ c .before .before .before .lost .ensures s old u (m .arrays .number) (m .view) (m .arrays .in-masks) (m .in-fresh)))
 
 enum-told-2 : tie.Need-enum-told-2
 enum-told-2 c = search needs
@@ -65,8 +65,8 @@ grown-requires-2 : tie.Need-grown-requires-2
 grown-requires-2 c κs = search needs
 
 returns-5 : tie.Need-returns-5
-returns-5 c = λ s old u m.
-    c .grown2 .ensures s _ u (over-opening s old u _ _ _ _ _ _ _ m (omega arith) (omega arith)) (opening-grows s old u _ _ _ _ _ _ _ m)
+returns-5 c = λ s old u m good.
+    c .grown2 .ensures s _ u (over-opening s old u _ _ _ _ _ _ _ m (omega arith) (omega arith)) good (opening-grows s old u _ _ _ _ _ _ _ m good)
 
 pub viewed-spec : {M : Type 1} → statement M
 viewed-spec =

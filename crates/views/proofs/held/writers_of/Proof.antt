@@ -6,7 +6,7 @@ use Rattle.views.proofs.held.writers_of.Tie as tie
 
 abbrev Inv-loop : tie.InvT-loop
 Inv-loop versions k set writers₀ left₀ writers left =
-    Gathering versions k set left writers
+    Gathering versions (k .0) set left writers
 
 abbrev μ-loop : tie.MeasureT-loop
 μ-loop versions k set writers₀ left₀ writers left = left
@@ -42,7 +42,7 @@ loop-less : tie.Need-loop-less Inv-loop μ-loop
 loop-less c = search needs
 
 loop-again : tie.Need-loop-again Inv-loop μ-loop
-loop-again c = gathering-on _ _ _ (c .before .before .before .before .before .before .loop .inv) (c .before .before .before .before .before .loop-test .taken) (c .before .before .before .before .lowest .ensures .0) (c .before .before .writer-of .ensures .0) (c .rest .ensures .0) (c .before .insert .ensures)
+loop-again c = gathering-on _ _ _ (c .before .before .before .before .before .before .before .loop .inv) (c .before .before .before .before .before .before .loop-test .taken) (c .before .before .before .before .before .lowest .ensures .0) (c .before .before .writer-of .ensures .0) (c .rest .ensures .0) (c .before .insert .ensures)
 
 returns : tie.Need-returns Inv-loop μ-loop
 returns c = gathering-done _ _ _ (c .before .loop .inv) (c .loop-test .left)

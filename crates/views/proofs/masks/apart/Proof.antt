@@ -20,7 +20,7 @@ has-requires c κs = search needs
 returns : tie.Need-returns
 returns c =
     apart-is _ _ (⊎-elim
-    (λ w. own-written _ _ _ (c .before .before .has .ensures) (c .before .before .before .wrapping-add-u64 .ensures) (w .0 .taken) (w .1))
+    (λ w. own-written _ _ _ (c .before .before .has .ensures) (c .before .before .before .before .wrapping-add-u64 .ensures) (w .0 .taken) (w .1))
     (λ w. own-unwritten _ _ _ (c .before .before .has .ensures) (w .0 .left) (w .1))
     (c .before .if1 .came))
 

@@ -26,7 +26,7 @@ has-requires-2 : tie.Need-has-requires-2
 has-requires-2 c κs = search needs
 
 returns-3 : tie.Need-returns-3
-returns-3 c = strays-unread _ _ _ _ (c .before .before .before .if1 .left) (c .before .if2 .left) (c .before .before .has .ensures) (c .has2 .ensures)
+returns-3 c = strays-unread _ _ _ _ (c .before .before .before .before .before .if1 .left) (c .before .before .if2 .left) (c .before .before .before .has .ensures) (c .has2 .ensures)
 
 pub strays-spec : {M : Type 1} → statement M
 strays-spec =

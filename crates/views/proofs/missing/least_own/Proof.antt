@@ -12,7 +12,7 @@ use Rattle.store.specs.Store.{View, Store, Commit}
 use Rattle.store.specs.Sound.{SoundStore}
 use Rattle.state.specs.Keeps.{KeepsKeys, KeepsMasks, KeepsOperations}
 use Rattle.views.proofs.Tests.{taken, left as not-so, not-taken, not-left}
-use Rattle.views.proofs.Codes.{writes-is}
+use Rattle.state.proofs.Ranks.{writes-rank}
 use Rattle.views.proofs.Own.{OwnMet, own-unwritten, own-held, own-found, own-nowhere}
 use Rattle.views.proofs.missing.least_own.Statement.{statement}
 use Rattle.views.proofs.missing.least_own.Tie as tie
@@ -57,7 +57,7 @@ has-requires-2 c κs = search needs
 returns : tie.Need-returns Inv-loop μ-loop
 returns c = λ s u t values e h few kk ko km.
     let k = c .before .before .before .before .before .before .before .before .loop .k in
-    own-found s u t h k (omega arith) (taken (c .before .before .before .before .before .if1 .taken) (c .before .before .before .before .before .before .has .ensures ∙ sym (writes-is t _ values ko k)))
+    own-found s u t h k (omega arith) (taken (c .before .before .before .before .before .if1 .taken) (c .before .before .before .before .before .before .has .ensures ∙ sym (writes-rank ko k)))
     (c .before .before .before .next-version .ensures .1 _ (omega (arith, h .few k)) (kk .full k (omega arith)))
     (not-taken (c .if2 .taken) (c .before .has2 .ensures ∙ ap₂ has (km .masks k (omega arith)) refl)) (c .before .before .before .before .before .before .before .before .loop .inv .1 s u t values e h few kk ko km)
 
@@ -75,7 +75,7 @@ loop-again c = (
       below-more _ _ (c .before .before .before .loop .inv .1 s u t values e h few kk ko km) (⊎-elim
       (λ w. own-held s u t h k (not-left (w .5 .left) (w .4 .ensures
       ∙ ap₂ has (km .masks k (omega arith)) (w .2 .ensures .1 _ (omega (arith, h .few k)) (kk .full k (omega arith))))))
-      (λ w. own-unwritten s u t h k (not-so (w .left) (c .before .has .ensures ∙ sym (writes-is t _ values ko k))))
+      (λ w. own-unwritten s u t h k (not-so (w .left) (c .before .has .ensures ∙ sym (writes-rank ko k))))
       (c .if1 .came)),
 )
 

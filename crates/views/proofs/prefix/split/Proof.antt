@@ -3,8 +3,10 @@ use borrow.Author.Needs.{needs}
 use Prim.Native.Nat.{ℕ, _-_, _≤_}
 use mathlib.Core.Path.{_≡_}
 use mathlib.Core.List.{List}
+use mathlib.Core.Option.{none}
 use native.Mathlib.Omega.{arith}
 use Rattle.store.specs.Store.{View, Store}
+use Rattle.store.specs.Refusal.{badMask}
 use Rattle.state.specs.Keeps.{IsSet}
 use Rattle.state.proofs.Below.{From, from-none, key-more}
 use Rattle.views.specs.Viewed.{NewMasks}
@@ -16,15 +18,15 @@ use Rattle.views.proofs.prefix.split.Tie as tie
 abbrev Inv-loop : tie.InvT-loop
 Inv-loop versions keys fresh n held₀ lacking₀ k₀ held lacking k =
     (k ≤ n)
-    × ((s : Store) (old u : View) (masks : List ℕ) (base seen : ℕ) (m : NewMasks s old u n versions keys masks base seen fresh) → Prefixes fresh n
-    → IsSet held (From (HeldAt s old u n versions keys masks base seen fresh m) k)
-    × IsSet lacking (From (LackedAt s old u n versions keys masks base seen fresh m) k))
+    × ((s : Store) (old u : View) (masks : List ℕ) (base seen : ℕ) (m : NewMasks s old u n versions keys masks base seen fresh) (good : badMask s u ≡ none) → Prefixes fresh n
+    → IsSet held (From (HeldAt s old u n versions keys masks base seen fresh m good) k)
+    × IsSet lacking (From (LackedAt s old u n versions keys masks base seen fresh m good) k))
 
 abbrev μ-loop : tie.MeasureT-loop
 μ-loop versions keys fresh n held₀ lacking₀ k₀ held lacking k = n - k
 
 loop-holds : tie.Need-loop-holds Inv-loop μ-loop
-loop-holds c = (omega arith, λ s old u masks base seen m p. (from-none (HeldAt s old u _ _ _ masks base seen _ m), from-none (LackedAt s old u _ _ _ masks base seen _ m)))
+loop-holds c = (omega arith, λ s old u masks base seen m good p. (from-none (HeldAt s old u _ _ _ masks base seen _ m good), from-none (LackedAt s old u _ _ _ masks base seen _ m good)))
 
 mul-writer-of : tie.Need-mul-writer-of Inv-loop μ-loop
 mul-writer-of c = search needs
@@ -83,21 +85,21 @@ loop-less c = search needs
 loop-again : tie.Need-loop-again Inv-loop μ-loop
 loop-again c = (
   omega arith,
-  λ s old u masks base seen m p.
-      let x = c .before .before .before .before .before .before .before .before .before .before .before .loop .inv .1 s old u masks base seen m p in
-      let l = later-is s old u _ _ _ masks base seen _ m p _ (omega arith) (c .before .before .before .before .before .before .before .before .newest .ensures .0) (c .before .before .before .before .before .before .writer-of .ensures .0) (c .before .before .before .before .up-to .ensures) (c .before .before .before .without .ensures) in
-      let h = held-is s old u _ _ _ masks base seen _ m p _ (omega arith) (c .before .before .before .before .before .before .before .before .newest .ensures .0) (c .before .before .before .before .before .before .writer-of .ensures .0) (c .before .before .before .before .up-to .ensures) (c .before .before .before .without .ensures) (c .before .before .without2 .ensures) in (
-        key-more (HeldAt s old u _ _ _ masks base seen _ m) _ (x .0) _ h (c .before .union .ensures),
-        key-more (LackedAt s old u _ _ _ masks base seen _ m) _ (x .1) _ l (c .union2 .ensures),
+  λ s old u masks base seen m good p.
+      let x = c .before .before .before .before .before .before .before .before .before .before .before .before .loop .inv .1 s old u masks base seen m good p in
+      let l = later-is s old u _ _ _ masks base seen _ m good p _ (omega arith) (c .before .before .before .before .before .before .before .before .before .newest .ensures .0) (c .before .before .before .before .before .before .writer-of .ensures .0) (c .before .before .before .before .up-to .ensures) (c .before .before .before .without .ensures) in
+      let h = held-is s old u _ _ _ masks base seen _ m good p _ (omega arith) (c .before .before .before .before .before .before .before .before .before .newest .ensures .0) (c .before .before .before .before .before .before .writer-of .ensures .0) (c .before .before .before .before .up-to .ensures) (c .before .before .before .without .ensures) (c .before .before .without2 .ensures) in (
+        key-more (HeldAt s old u _ _ _ masks base seen _ m good) _ (x .0) _ h (c .before .union .ensures),
+        key-more (LackedAt s old u _ _ _ masks base seen _ m good) _ (x .1) _ l (c .union2 .ensures),
       ),
 )
 
 returns : tie.Need-returns Inv-loop μ-loop
 returns c =
     let e : c .before .loop .k ≡ c .before .before .before .before .before .args .n = omega arith in
-    λ s old u masks base seen m p.
-    let x = c .before .loop .inv .1 s old u masks base seen m p in
-    (held-all s old u _ _ _ masks base seen _ m _ (rw e at (x .0)), lacked-all s old u _ _ _ masks base seen _ m _ (rw e at (x .1)))
+    λ s old u masks base seen m good p.
+    let x = c .before .loop .inv .1 s old u masks base seen m good p in
+    (held-all s old u _ _ _ masks base seen _ m good _ (rw e at (x .0)), lacked-all s old u _ _ _ masks base seen _ m good _ (rw e at (x .1)))
 
 pub split-spec : {M : Type 1} → statement M
 split-spec =

@@ -1,0 +1,33 @@
+// Every call for callers in Rust and C, each with all that is promised of it. A call is lent a trace file, the places that it writes to, and words for its
+// answer; it answers a code, and nothing is asked of its caller. Which word is what stands in crates/words/specs/Layout.antt: a refusal has the same
+// words for all calls. What the answer is stands in the definitions that the contracts name.
+ghost use mathlib.Core.Path.{_≡_};
+ghost use Prim.Native.Nat.{_≤_, _<_};
+ghost use lib.ListN.{length};
+ghost use Rattle.endian.specs.Endian.{putAt};
+ghost use Rattle.answer.specs.Answer.{imageAfter};
+ghost use Rattle.answer.specs.Demand3.{Demand3};
+ghost use Rattle.judging.specs.Answers.{toldAnswer};
+ghost use Rattle.words.specs.Layout.{noRoom, answerLength, answerWords, codeOf};
+
+// Judges a trace file: ten verdicts, and the image of its store at the start of `image`; or a refusal with codes 1 to 15, and `image` as it came.
+// Where there is no room for the words nothing is judged.
+#[no_mangle]
+pub extern "C" fn judge_file(file: &[u8], image: &mut [u8], out: &mut [u64]) -> u64
+    ensures room { λ r. ⌜
+        (length (now (out .entry)) < answerLength
+        → (r ≡ noRoom) × (now (out .exit) ≡ now (out .entry)) × (now (image .exit) ≡ now (image .entry)))
+        ⌝ }
+    ensures answer { λ r. ⌜
+        (answerLength ≤ length (now (out .entry))
+        → (r ≡ codeOf (toldAnswer (now (file .entry)) (length (now (image .entry)))))
+        × (now (out .exit) ≡ putAt (now (out .entry)) 0 (answerWords (toldAnswer (now (file .entry)) (length (now (image .entry))))))
+        × (now (image .exit) ≡ imageAfter (now (file .entry)) (now (image .entry))))
+        ⌝ }
+    ensures demand3 { λ _. ⌜ Demand3 (now (file .entry)) ⌝ }
+{
+    if out.len() < words::ANSWER {
+        return words::NO_ROOM;
+    }
+    words::put_answer(out, judging::judge(file, image))
+}

@@ -1,0 +1,136 @@
+-- A file in form: its records start on the opening arrays, and where they were run to their end the trace is taken. Assumes nothing.
+use Prim.Native.Nat.{ℕ, _^_, _≤_, _<_, zero-le}
+use mathlib.Core.Path.{_≡_, sym, _∙_, subst}
+use mathlib.Core.Option.{Option, some, none}
+use mathlib.Core.List.{List}
+use native.Mathlib.Omega.{arith}
+use native.Mathlib.Decide.{decLt}
+use lib.Dec.{lit<}
+use lib.ListN.{length, getD, length-replicate, getD-replicate, List·getD-eq-default}
+use Rattle.endian.specs.Endian.{Bytes}
+use Rattle.store.specs.Limits.{maxCommits, minBytes, maxBytes}
+use Rattle.store.specs.Store.{opening, openingStore, Event}
+use Rattle.store.specs.Update.{firstAlong}
+use Rattle.store.specs.Refusal.{refuse, refusesEvent}
+use Rattle.store.proofs.Run.{final-commits}
+use Rattle.trace.specs.Result.{refused}
+use Rattle.trace.specs.Format.{Trace, traceOf, decode}
+use Rattle.trace.specs.Meaning.{headerOf, WholeFile, FormSays}
+use Rattle.trace.specs.declared.form.Header.{Header}
+use Rattle.trace.specs.declared.form.Form.{Form}
+use Rattle.trace.specs.declared.form.Form.the-variants.{Whole, Misshapen}
+use Rattle.trace.proofs.Decoded.{IfTaken, EntriesRead, entries-read, decoded-length}
+use Rattle.trace.proofs.Entries.{length-eventsOf}
+use Rattle.levels.specs.Level.{Level, Failure, firstFailure}
+use Rattle.answer.specs.Answer.{accept, verdict}
+use Rattle.state.specs.Places.{versionsLength, keysLength, viewsLength, seenLength, sessionsLength, commitsLength, linksLength, valuesLength}
+use Rattle.state.proofs.Opening.{filled, keeps-opening}
+use Rattle.state.specs.declared.Key.{Key}
+use Rattle.state.specs.declared.VersionNumber.{VersionNumber}
+use Rattle.verdicts.specs.Verdicts.{verdictsLength, KeepsVerdict, KeepsVerdicts}
+use Rattle.verdicts.specs.Told.{tellAll, verdictsOf}
+use Rattle.verdicts.specs.declared.told.Verdicts.{Verdicts}
+use Rattle.run.specs.Ran.{Starts, Ended, RanSays}
+use Rattle.run.specs.declared.Ran.{Ran}
+use Rattle.run.specs.declared.Ran.the-variants.{Done, Refused}
+use Rattle.taking.specs.Taking.{Opened, Takes}
+use Rattle.taking.proofs.Accepted.{misshapen, accepted, refused-meaning}
+
+-- the trace of a file in form
+abbrev pub traceIn : {s : List ℕ} {h : Header} → WholeFile s h → Trace
+traceIn {s} {h} w = traceOf (headerOf h) (w .entries)
+
+-- a file in form is neither too short nor too long
+pub whole-length : {s : List ℕ} → Bytes s → {h : Header} → WholeFile s h → (minBytes ≤ length s) × (length s ≤ maxBytes)
+whole-length {s} b {h} w = decoded-length s b (traceIn w) (w .decoded)
+
+-- ---- at the start
+
+-- zeros are read as zero at any place
+zeros : (n j : ℕ) → getD (filled n 0) j 0 ≡ 0
+zeros n j = go (decLt j n)
+  where
+    go : Dec (j < n) → getD (filled n 0) j 0 ≡ 0
+    go (yes l) = getD-replicate n j 0 0 l
+    go (no m) = List·getD-eq-default (filled n 0) 0 (let e : length (filled n 0) ≡ n = length-replicate {A = ℕ} n 0 in omega arith)
+
+-- no level has failed
+no-failure : KeepsVerdicts (λ l. none) (filled verdictsLength 0)
+unfolding KeepsVerdict
+no-failure = record { room = length-replicate {A = ℕ} verdictsLength 0; verdict = λ i l. zeros verdictsLength i }
+
+no-value : (r : ℕ) → getD (filled valuesLength 0) r 0 < 2 ^ 32
+no-value r = let z = zeros valuesLength r in subst (λ (x : ℕ). x < 2 ^ 32) (sym z) (lit< tt)
+
+-- the records start on the arrays of the opening store, with no failure
+pub starts : {s : List ℕ} {h : Header} (w : WholeFile s h) {versions keys views seen sessions commits links verdicts values : List ℕ}
+    → Opened versions keys commits
+    → views ≡ filled viewsLength 1 → seen ≡ filled seenLength 1 → sessions ≡ filled sessionsLength 0 → links ≡ filled linksLength 0
+    → verdicts ≡ filled verdictsLength 0 → values ≡ filled valuesLength 0
+    → Starts s (h .keys) (h .clients) (h .records) (w .entries) versions keys views seen sessions commits links verdicts values
+starts {s} {h} w o e2 e3 e4 e6 e7 e8 =
+    rw (o .in-versions, o .in-keys, o .in-commits, e2, e3, e4, e6, e7, e8) (record {
+      some-key = w .some-key;
+      few-keys = w .few-keys;
+      some-client = w .some-client;
+      few-clients = w .few-clients;
+      read = w .read;
+      keeps = keeps-opening (h .keys) (w .some-key) (w .few-keys);
+      no-failure = no-failure;
+      small = no-value;
+    })
+
+-- ---- at the end
+
+-- what was read of the records
+records-read : {s : List ℕ} → Bytes s → {h : Header} (w : WholeFile s h) → EntriesRead (headerOf h) (h .records) 0 (w .entries)
+records-read {s} b {h} w = subst (IfTaken (EntriesRead (headerOf h) (h .records) 0)) (w .read) (entries-read s b (headerOf h) (h .records) minBytes 1 0 zero-le)
+
+module _ {s : List ℕ} (b : Bytes s) {h : Header} (w : WholeFile s h) {count : ℕ} {versions keys views seen sessions commits links verdicts : List ℕ}
+    (e : Ended (h .keys) (traceIn w .events) count versions keys views seen sessions commits links verdicts) where
+  -- the commits that were made are few
+  few-made : count ≤ maxCommits
+  unfolding opening openingStore
+  few-made =
+      let r = records-read b w .few-commits (opening (h .keys)) in
+      let f = final-commits (opening (h .keys)) (traceIn w .events) in
+      let c = e .counted in
+      omega arith
+
+  -- the trace is taken: the arrays keep its last store, and the verdicts told are its own
+  pub takes : {vs : Verdicts} → ((fs : Level → Option Failure) → KeepsVerdicts fs verdicts → verdictsOf vs ≡ tellAll fs)
+      → Takes s (traceIn w) versions keys commits (h .keys) (h .records) count vs
+  unfolding firstFailure
+  takes told = record {
+    accepted = accepted s (traceIn w) (w .decoded) (e .none-refused);
+    in-versions = e .keeps .in-versions;
+    in-keys = e .keeps .in-keys;
+    in-commits = e .keeps .in-commits;
+    all-keys = e .keys-are;
+    all-records = length-eventsOf (opening (h .keys)) (w .entries) ∙ records-read b w .counted;
+    all-commits = e .counted;
+    few-keys = w .few-keys;
+    few-commits = few-made;
+    sound = e .sound .store;
+    clients-fit = e .clients-fit;
+    told = told (λ l. verdict l (traceIn w)) (e .failures);
+  }
+
+-- ---- what the calls answer, case by case
+
+pub whole-of : {s : List ℕ} {f : Form} {h : Header} → FormSays s f → f ≡ Whole h → WholeFile s h
+unfolding FormSays
+whole-of {s} says e = subst (FormSays s) e says
+
+-- a file that is not in form is refused
+pub misshapen-of : (s : List ℕ) {f : Form} {code n : ℕ} → FormSays s f → f ≡ Misshapen code n → accept s ≡ refused (refuse code n)
+unfolding FormSays
+misshapen-of s says e = misshapen s _ (subst (FormSays s) e says)
+
+module _ (n : ℕ) (es : List Event) (versions keys views seen sessions commits links verdicts : List ℕ) (r : Ran) (says : RanSays n es versions keys views seen sessions commits links verdicts r) where
+  pub ran-done : {count : ℕ} → r ≡ Done count → Ended n es count versions keys views seen sessions commits links verdicts
+  ran-done e = subst (RanSays n es versions keys views seen sessions commits links verdicts) e says
+
+  pub ran-refused : {code i : ℕ} {k : Key} {v : VersionNumber} → r ≡ Refused code i k v
+      → firstAlong refusesEvent 1 (opening n) es ≡ some (record { code = code; atRecord = i; key = k .0; version = v .0 })
+  ran-refused e = subst (RanSays n es versions keys views seen sessions commits links verdicts) e says

@@ -1,0 +1,3 @@
+pub mod Accepted
+pub mod InForm
+pub mod Cases

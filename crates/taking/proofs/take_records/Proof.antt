@@ -1,0 +1,162 @@
+-- `taking::take_records` meets its contract: the arrays of the opening store are those on which the records start, and what the run comes to is
+-- what the definitions accept. Assumes nothing.
+use Prim.Native.Nat.{ℕ}
+use mathlib.Core.Path.{refl, ap, _∙_}
+use native.Mathlib.Omega.{arith}
+use lib.ListN.{length, replicate, length-replicate}
+use denote.Ref.{now}
+use Rattle.endian.specs.Endian.{Bytes}
+use Rattle.state.specs.Places.{versionsLength, keysLength, viewsLength, seenLength, sessionsLength, commitsLength, linksLength, valuesLength}
+use Rattle.verdicts.specs.Verdicts.{verdictsLength}
+use Rattle.run.specs.Ran.{Starts}
+use Rattle.taking.specs.Taking.{TakingSays}
+use Rattle.taking.proofs.Accepted.{refused-meaning}
+use Rattle.taking.proofs.InForm.{traceIn, starts, takes, ran-done, ran-refused}
+use borrow.Author.Needs.{needs}
+use Rattle.taking.proofs.take_records.Statement.{statement}
+use Rattle.taking.proofs.take_records.Tie as tie
+
+-- ---- the ways back: from the call of `run_all` to the start and to the opening store, and from where each answer is given to that call
+
+abbrev begun : tie.After-fresh → tie.Start
+begun c = c .before .before .before .before .before .before .before .before .before .before .before .before .before .before .before .before .before .before .before
+
+abbrev opened : tie.After-fresh → tie.After-opening
+opened c = c .before .before .before .before .before .before .before .before .before .before .before .before .before .before
+
+abbrev refused : tie.After-known-told → tie.After-run-all
+refused c = c .before .before .before .before .before .before .before .before .before .before .before .before .before .before .before .before
+
+abbrev done : tie.After-verdicts-from → tie.After-run-all
+done c = c .before .before .before .before .before .before .before .before .before .before .before .before .before .before .before .before .before .before
+
+-- the bytes of the file are bytes
+bytes : (c : tie.After-fresh) → Bytes (now (begun c .args .file))
+bytes c i = c .before .before .before .before .before .before .before .before .before .before .before .before .before .before .before .before .before .before .shared-slice-known .given i .fits
+
+-- the records start on these arrays
+started : (c : tie.After-fresh)
+    → let a = begun c .args in
+    let o = opened c .opening .result in
+    Starts (now (a .file)) (a .h .keys) (a .h .clients) (a .h .records) (begun c .pre .0 .0 .entries) (now (a .versions)) (now (a .keys)) (o .views) (o .seen) (o .sessions) (now (a .commits)) (o .links) (replicate verdictsLength 0) (replicate valuesLength 0)
+started c =
+    let o = opened c .opening .ensures in
+    starts (begun c .pre .0 .0) (begun c .pre .1) (o .1 .1 .0 .0) (o .1 .1 .0 .1) (o .1 .1 .1 .0) (o .1 .1 .1 .2) refl refl
+
+opening-requires : tie.Need-opening-requires
+opening-requires c κs = search needs
+
+slice-aggregate-run-all : tie.Need-slice-aggregate-run-all
+slice-aggregate-run-all c = search needs
+
+slice-aggregate-run-all-2 : tie.Need-slice-aggregate-run-all-2
+slice-aggregate-run-all-2 c = search needs
+
+slice-aggregate-run-all-3 : tie.Need-slice-aggregate-run-all-3
+slice-aggregate-run-all-3 c = search needs
+
+slice-aggregate-run-all-4 : tie.Need-slice-aggregate-run-all-4
+slice-aggregate-run-all-4 c = search needs
+
+slice-aggregate-run-all-5 : tie.Need-slice-aggregate-run-all-5
+slice-aggregate-run-all-5 c = search needs
+
+slice-aggregate-run-all-6 : tie.Need-slice-aggregate-run-all-6
+slice-aggregate-run-all-6 c = search needs
+
+slice-aggregate-run-all-7 : tie.Need-slice-aggregate-run-all-7
+slice-aggregate-run-all-7 c = search needs
+
+run-all-requires : tie.Need-run-all-requires
+run-all-requires c κs =
+    let w = begun c .pre .0 .0 in
+    let d = begun c .pre .1 in
+    let o = opened c .opening .ensures in (
+      omega (arith, w .some-key, w .few-keys, w .few-clients, w .few-records, begun c .pre .0 .1, begun c .pre .0 .2),
+      (
+        omega arith,
+        (
+          omega (
+            arith,
+            ap length (d .in-versions) ∙ length-replicate {A = ℕ} versionsLength 0,
+            ap length (d .in-keys) ∙ length-replicate {A = ℕ} keysLength 1,
+            ap length (d .in-commits) ∙ length-replicate {A = ℕ} commitsLength 0,
+            ap length (o .1 .1 .0 .0) ∙ length-replicate {A = ℕ} viewsLength 1,
+            ap length (o .1 .1 .0 .1) ∙ length-replicate {A = ℕ} seenLength 1,
+            ap length (o .1 .1 .1 .0) ∙ length-replicate {A = ℕ} sessionsLength 0,
+            ap length (o .1 .1 .1 .2) ∙ length-replicate {A = ℕ} linksLength 0,
+          ),
+          (w .entries, started c),
+        ),
+      ),
+    )
+
+enum-known-ran : tie.Need-enum-known-ran
+enum-known-ran c = search needs
+
+enum-known-ran-2 : tie.Need-enum-known-ran-2
+enum-known-ran-2 c = search needs
+
+slice-aggregate-verdicts-from : tie.Need-slice-aggregate-verdicts-from
+slice-aggregate-verdicts-from c = search needs
+
+verdicts-from-requires : tie.Need-verdicts-from-requires
+verdicts-from-requires c κs = search needs
+
+same-length : tie.Need-same-length
+same-length c = search needs
+
+same-length-2 : tie.Need-same-length-2
+same-length-2 c = search needs
+
+same-length-3 : tie.Need-same-length-3
+same-length-3 c = search needs
+
+returns : tie.Need-returns
+unfolding TakingSays
+returns c =
+    let at = refused c .before in
+    let w = begun at .pre .0 .0 in
+    refused-meaning _ (traceIn w) (w .decoded) _ (ran-refused _ _ _ _ _ _ _ _ _ _ _ (refused c .run-all .ensures (w .entries) (started at)) (c .before .ran .given .1))
+
+same-length-4 : tie.Need-same-length-4
+same-length-4 c = search needs
+
+same-length-5 : tie.Need-same-length-5
+same-length-5 c = search needs
+
+same-length-6 : tie.Need-same-length-6
+same-length-6 c = search needs
+
+returns-2 : tie.Need-returns-2
+unfolding TakingSays
+returns-2 c =
+    let at = done c .before in
+    let w = begun at .pre .0 .0 in
+    (traceIn w, takes (bytes at) w (ran-done _ _ _ _ _ _ _ _ _ _ _ (done c .run-all .ensures (w .entries) (started at)) (c .before .before .before .ran2 .given .1)) (c .verdicts-from .ensures))
+
+pub take-records-spec : {M : Type 1} → statement M
+take-records-spec =
+    tie.close
+    (tie.spec
+    opening-requires
+    slice-aggregate-run-all
+    slice-aggregate-run-all-2
+    slice-aggregate-run-all-3
+    slice-aggregate-run-all-4
+    slice-aggregate-run-all-5
+    slice-aggregate-run-all-6
+    slice-aggregate-run-all-7
+    run-all-requires
+    enum-known-ran
+    enum-known-ran-2
+    slice-aggregate-verdicts-from
+    verdicts-from-requires
+    same-length
+    same-length-2
+    same-length-3
+    returns
+    same-length-4
+    same-length-5
+    same-length-6
+    returns-2)

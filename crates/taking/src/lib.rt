@@ -1,0 +1,101 @@
+// A trace file is taken or refused: its form and then its meaning, over all records, by codes 1 to 14. Where it is taken, the arrays that were lent
+// keep its last store, and the answer has its verdicts. Whatever a call makes of a taken trace comes after this and is its own: the call makes the
+// arrays of the opening store, lends them here, and ends with what it writes or answers.
+use run::Ran;
+use state::Key;
+use state::Refusal;
+use state::VersionNumber;
+use store::Store;
+use trace::form::Form;
+use trace::form::Header;
+use verdicts::told::Verdicts;
+use verdicts::told::verdicts_from;
+ghost use Prim.Native.Nat.{_≤_};
+ghost use lib.ListN.{length};
+ghost use Rattle.store.specs.Limits.{minBytes, maxBytes};
+ghost use Rattle.trace.specs.Meaning.{WholeFile};
+ghost use Rattle.taking.specs.Taking.{Opened, TakingSays};
+
+// What a file comes to: a refusal; or a trace of so many keys, records and commits, with the verdicts of the levels.
+pub enum Taking {
+    Refused(Refusal),
+    Taken {
+        keys: usize,
+        records: usize,
+        commits: usize,
+        verdicts: Verdicts,
+    },
+}
+
+// A file in form, with its header: its records are run from the opening on.
+fn take_records(
+    file: &[u8],
+    h: Header,
+    versions: &mut [u64],
+    keys: &mut [u64],
+    commits: &mut [u64],
+) -> Taking
+    requires { ⌜ WholeFile (now file) h × (minBytes ≤ length (now file)) × (length (now file) ≤ maxBytes) ⌝ }
+    requires { ⌜ Opened (now versions) (now keys) (now commits) ⌝ }
+    ensures { λ r. ⌜ TakingSays (now (file .entry)) (now (versions .exit)) (now (keys .exit)) (now (commits .exit)) r ⌝ }
+{
+    let s = Store::opening();
+    let mut views = s.views;
+    let mut seen = s.seen;
+    let mut sessions = s.sessions;
+    let mut links = s.links;
+    let mut noted = [0u64; verdicts::VERDICTS];
+    let mut values = [0u64; state::VALUES];
+    let mut fresh = [0u64; state::FRESH];
+    let ran = run::run_all(
+        file,
+        h.keys,
+        h.clients,
+        h.records,
+        versions,
+        keys,
+        &mut views,
+        &mut seen,
+        &mut sessions,
+        commits,
+        &mut links,
+        &mut noted,
+        &mut values,
+        &mut fresh,
+    );
+    match ran {
+        Ran::Refused {
+            code,
+            record,
+            key,
+            version,
+        } => Taking::Refused(Refusal {
+            code,
+            record,
+            key,
+            version,
+        }),
+        Ran::Done { commits: count } => Taking::Taken {
+            keys: h.keys,
+            records: h.records,
+            commits: count,
+            verdicts: verdicts_from(&noted),
+        },
+    }
+}
+
+// The bytes of a file, whatever they are, on the arrays of the opening store.
+pub fn take_file(file: &[u8], versions: &mut [u64], keys: &mut [u64], commits: &mut [u64]) -> Taking
+    requires { ⌜ Opened (now versions) (now keys) (now commits) ⌝ }
+    ensures { λ r. ⌜ TakingSays (now (file .entry)) (now (versions .exit)) (now (keys .exit)) (now (commits .exit)) r ⌝ }
+{
+    match trace::form::form_of(file) {
+        Form::Misshapen { code, record } => Taking::Refused(Refusal {
+            code,
+            record,
+            key: Key(0),
+            version: VersionNumber(0),
+        }),
+        Form::Whole(h) => take_records(file, h, versions, keys, commits),
+    }
+}

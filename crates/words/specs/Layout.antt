@@ -1,0 +1,55 @@
+-- Answers as words, for callers in Rust and C. The first word of an answer is its code: that of a refusal, which has the same words for all calls, or
+-- 0, and what was found after it. Assumes nothing.
+use Prim.Native.Nat.{ℕ, _+_, _*_}
+use mathlib.Core.Option.{Option, some, none}
+use mathlib.Core.List.{List, [], _∷_, _++_}
+use lib.ListN.{length}
+use Rattle.store.specs.Refusal.{Refusal}
+use Rattle.trace.specs.Result.{Result, refused, taken}
+use Rattle.levels.specs.Level.{levels}
+use Rattle.verdicts.specs.Told.{Told}
+use Rattle.judging.specs.Answers.{Judged}
+
+-- ---- what all calls have in common
+
+-- the code of a call that has no room for the words of its answer: no file has it
+abbrev pub noRoom : ℕ
+noRoom = 255
+
+-- a refusal: its code, record, key and version, and a word that is 0
+abbrev pub refusalWords : Refusal → List ℕ
+refusalWords r = r .code ∷ r .atRecord ∷ r .key ∷ r .version ∷ 0 ∷ []
+
+abbrev pub refusalLength : ℕ
+refusalLength = 5
+
+-- the code of an answer: "0" where it has what was asked
+abbrev pub codeOf : {A : Type 0} → Result A → ℕ
+codeOf (refused r) = r .code
+codeOf (taken a) = 0
+
+-- the words of an answer, given those of what was found
+abbrev pub wordsOf : {A : Type 0} → (A → List ℕ) → Result A → List ℕ
+wordsOf found (refused r) = refusalWords r
+wordsOf found (taken a) = 0 ∷ found a
+
+-- ---- `judge_file`
+
+-- clause, record, key and version of a level's first failure, and four zeros where it accepts
+abbrev pub verdictWords : Option Told → List ℕ
+verdictWords none = 0 ∷ 0 ∷ 0 ∷ 0 ∷ []
+verdictWords (some f) = f .clause ∷ f .atRecord ∷ f .key ∷ f .version ∷ []
+
+abbrev pub allVerdictWords : List (Option Told) → List ℕ
+allVerdictWords [] = []
+allVerdictWords (v ∷ vs) = verdictWords v ++ allVerdictWords vs
+
+-- the records, the commits and the length of the image, then the verdicts in report order
+abbrev pub judgedWords : Judged → List ℕ
+judgedWords j = j .records ∷ j .commits ∷ j .imageLength ∷ allVerdictWords (j .verdicts)
+
+abbrev pub answerWords : Result Judged → List ℕ
+answerWords a = wordsOf judgedWords a
+
+abbrev pub answerLength : ℕ
+answerLength = 4 + 4 * length levels

@@ -1,0 +1,62 @@
+// Answers as words, for callers in Rust and C: specs/Layout.antt says which word is what. Each function writes the words of one answer at the start of
+// a caller's words and answers its code.
+mod judged; // judged.rt: the words of the ten verdicts
+
+use judging::Answer;
+use state::Refusal;
+ghost use mathlib.Core.Path.{_≡_};
+ghost use mathlib.Core.List.{[], _∷_};
+ghost use Prim.Native.Nat.{_≤_};
+ghost use lib.ListN.{length};
+ghost use Rattle.endian.specs.Endian.{putAt};
+ghost use Rattle.state.specs.Answers.{refusalOf};
+ghost use Rattle.judging.specs.Answers.{answerOf};
+ghost use Rattle.words.specs.Layout.{refusalLength, refusalWords, answerLength, answerWords, codeOf};
+
+// The code of a call that has no room for the words of its answer.
+pub const NO_ROOM: u64 = 255;
+
+// The words of an answer of `judge`.
+pub const ANSWER: usize = 4 + 4 * verdicts::LEVELS;
+
+// A refusal, of whatever call.
+pub fn put_refusal(out: &mut [u64], r: Refusal) -> u64
+    requires { ⌜ refusalLength ≤ length (now out) ⌝ }
+    ensures { λ c. ⌜ (c ≡ r .code) × (now (out .exit) ≡ putAt (now (out .entry)) 0 (refusalWords (refusalOf r))) ⌝ }
+{
+    let key = r.key;
+    let version = r.version;
+    out[0] = r.code as u64;
+    out[1] = r.record as u64;
+    out[2] = key.0 as u64;
+    out[3] = version.0 as u64;
+    out[4] = 0;
+    r.code as u64
+}
+
+// The answer of `judge`.
+pub fn put_answer(out: &mut [u64], a: Answer) -> u64
+    requires { ⌜ answerLength ≤ length (now out) ⌝ }
+    ensures { λ c. ⌜ (c ≡ codeOf (answerOf a)) × (now (out .exit) ≡ putAt (now (out .entry)) 0 (answerWords (answerOf a))) ⌝ }
+{
+    match a {
+        Answer::Refused(refusal) => put_refusal(out, refusal),
+        Answer::Judged {
+            verdicts,
+            records,
+            commits,
+            image_length,
+        } => {
+            judged::put_four(
+                out,
+                0,
+                0,
+                records as u64,
+                commits as u64,
+                image_length as u64,
+            );
+            judged::put_verdicts(out, verdicts);
+            0
+        }
+    }
+}
