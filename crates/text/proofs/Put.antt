@@ -3,9 +3,11 @@ use Prim.Native.Nat.{ℕ, _+_, _/_, _%_, _≤_, _<_}
 use mathlib.Core.Path.{_≡_, refl, sym, ap, _∙_, subst}
 use mathlib.Core.List.{List, [], _∷_, _++_}
 use native.Mathlib.Omega.{arith}
+use native.Mathlib.Nat.{zero-add}
 use native.Mathlib.Numerals.{add-one}
 use lib.ListN.{length, getD, set, length-append}
 use lib.Seq.{paste, paste-suc, sets-eq, take-length}
+use Rattle.endian.specs.Endian.{putAt}
 use Rattle.endian.proofs.Put.{length-put, put-next}
 use Rattle.text.specs.Decimal.{digit, decimal, decimal-one, decimal-more}
 use Rattle.text.specs.Put.{Put}
@@ -19,6 +21,10 @@ put-both {before} {at = at} {mid = mid} {a = a} {b = b} p q =
       behind = simp length-append (omega (arith, p .behind, q .behind));
       within = omega (arith, p .within, q .within, ap length (p .stands), length-put before at a (omega arith));
     }
+
+-- what is put at the start of a buffer
+pub put-start : {before after bytes : List ℕ} {end : ℕ} → Put before 0 bytes after end → (end ≡ length bytes) × (after ≡ putAt before 0 bytes)
+put-start {bytes = bytes} p = (p .behind ∙ zero-add (length bytes), p .stands)
 
 -- one byte
 pub put-one : (d : List ℕ) (at b : ℕ) → at < length d → Put d at (b ∷ []) (set d at b) (at + 1)
