@@ -1,23 +1,21 @@
 -- A commit read from its record: its operations in the arrays. Assumes nothing.
-use Prim.Native.Nat.{ℕ, zero, suc, _+_, _*_, _/_, _%_, _^_, _≤_, _<_}
+use Prim.Native.Nat.{ℕ, zero, suc, _+_, _*_, _/_, _%_, _^_, _<_}
 use mathlib.Core.Path.{_≡_, refl, sym, ap, _∙_, subst}
-use mathlib.Core.Bool.{Bool, true, false, _&&_}
-use mathlib.Core.Logic.{_⊎_, inl, inr, _↔_}
-use mathlib.Core.Option.{Option, some, none}
+use mathlib.Core.Bool.{Bool, _&&_}
+use mathlib.Core.Option.{Option, some}
 use mathlib.Core.List.{List, [], _∷_}
 use native.Mathlib.Omega.{arith}
 use native.Mathlib.Nat.{add-zero}
 use lib.Dec.{T, eqb}
 use lib.ListN.{length, getD}
-use Rattle.search.specs.Choose.{choose, when}
+use Rattle.search.specs.Choose.{when}
 use Rattle.search.proofs.Choose.{choose-ind}
 use Rattle.search.proofs.Tests.{T?, T-true, some-none}
 use Rattle.sets.specs.Set.{Set, has}
 use Rattle.store.specs.Limits.{maxKeys, maxClients}
-use Rattle.store.specs.Store.{Value, View, Store, Configuration, Access, read, write, Operation, Commit}
+use Rattle.store.specs.Store.{Value, Store, Configuration, Access, read, write, Operation, Commit}
 use Rattle.store.specs.Update.{sameAccess, valueOf, viewBefore}
 use Rattle.store.specs.Sound as Store
-use Rattle.trace.specs.Format.{viewAt}
 use Rattle.trace.specs.Encode.{accessNumber}
 use Rattle.trace.specs.WellFormed.{rank, Rise, FitsCommit}
 use Rattle.trace.proofs.Fits.{commit-fits}

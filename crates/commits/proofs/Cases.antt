@@ -1,25 +1,25 @@
 -- The codes of a commit, case by case. Assumes nothing.
-use Prim.Native.Nat.{ℕ, suc, _+_, _*_, _≤_, _<_}
+use Prim.Native.Nat.{ℕ, _+_, _*_, _≤_, _<_}
 use mathlib.Core.Path.{_≡_, refl, sym, ap, _∙_, subst}
-use mathlib.Core.Bool.{Bool, true, false, _&&_}
-use mathlib.Core.Logic.{_⊎_, inl, inr, _↔_}
+use mathlib.Core.Bool.{_&&_}
+use mathlib.Core.Logic.{_↔_}
 use mathlib.Core.Option.{Option, some, none}
 use mathlib.Core.List.{List, [], _∷_}
 use native.Mathlib.Omega.{arith}
 use lib.Dec.{T, eqb, ltb, leb}
 use lib.ListN.{getD, set}
-use Rattle.search.specs.Choose.{isSome, mapSome, when, orElse, firstSome}
+use Rattle.search.specs.Choose.{mapSome, when, orElse, firstSome}
 use Rattle.search.specs.Search.{any}
 use Rattle.search.proofs.Tests.{both, and-is, eq-is, lt-is, le-is, T-true, T-false}
 use Rattle.search.proofs.Search.{any-is}
 use Rattle.dependencies.specs.History as D
 use Rattle.sets.specs.Set.{Set}
-use Rattle.store.specs.Limits.{maxKeys, maxClients, maxCommits}
+use Rattle.store.specs.Limits.{maxKeys, maxClients}
 use Rattle.store.specs.Store.{View, Store, Configuration, nextNumber, Commit, commit}
-use Rattle.store.specs.Update.{update, step, viewBefore, storeAfter}
+use Rattle.store.specs.Update.{step, viewBefore, storeAfter}
 use Rattle.store.specs.Missing.{Place}
 use Rattle.store.specs.Links.{stored}
-use Rattle.store.specs.Refusal.{Refusal, refuse, refuseKey, refusePlace, notAbove, oldNumber, wrongRead, badMask, halfHeld, stray, refusesEvent}
+use Rattle.store.specs.Refusal.{Refusal, refuse, refuseKey, refusePlace, notAbove, oldNumber, wrongRead, stray, refusesEvent}
 use Rattle.store.specs.Sound.{SoundStore, Sound}
 use Rattle.store.specs.History.{Appears, history, held}
 use Rattle.store.specs.View.{FitsView}
@@ -30,29 +30,33 @@ use Rattle.growth.specs.Made.{Made}
 use Rattle.growth.proofs.Made.{keys-after, sound-after, number-after}
 use Rattle.growth.proofs.Ordered.{ordered-commit}
 use Rattle.growth.proofs.Views.{holds-kept}
+use Rattle.state.specs.Places.{barPlace}
 use Rattle.state.specs.Keeps.{IsSet, CommitOf, KeepsSessions, KeepsViews}
 use Rattle.state.proofs.Sets.{isSet-as}
-use Rattle.views.specs.Rules.{StoreAndView}
 use Rattle.views.specs.Rows.{Kept}
 use Rattle.views.specs.Viewed.{NewMasks}
+use Rattle.shifts.specs.Outcomes.{maskRefusal}
+use Rattle.shifts.proofs.Refused.{third-or}
 use Rattle.shifts.proofs.Replaced.{commit-replaces}
 use Rattle.commits.specs.Codes.{earlyRefusal, lateRefusal, EarlyGiven, LateGiven}
 
+-- five answers in a row: the first two, and then the other three
+two-then-three : {A : Type 0} (a b c d e : Option A) → firstSome (a ∷ b ∷ c ∷ d ∷ e ∷ []) ≡ orElse (firstSome (a ∷ b ∷ [])) (orElse (firstSome (c ∷ d ∷ [])) e)
+unfolding firstSome orElse
+two-then-three (some x) b c d e = refl
+two-then-three none (some x) c d e = refl
+two-then-three none none c d e = third-or c d e
+
 -- the codes of a commit are those before it is made, and then those after
 pub codes-in-turn : (i : ℕ) (g : Configuration) (c : Commit) → refusesEvent i g (commit c) ≡ orElse (earlyRefusal i (g .store) (viewBefore g c) c) (lateRefusal i g c)
-unfolding refusesEvent earlyRefusal lateRefusal firstSome orElse
-codes-in-turn i g c = join (when (oldNumber (g .store) c) (refuse 9 i)) (mapSome (refusePlace 13 i) (wrongRead (g .store) (viewBefore g c) c)) _
-  where
-    join : (a b r : Option Refusal) → orElse a (orElse b r) ≡ orElse (orElse a (orElse b none)) r
-    join (some x) b r = refl
-    join none (some y) r = refl
-    join none none r = refl
+unfolding refusesEvent earlyRefusal lateRefusal maskRefusal
+codes-in-turn i g c = two-then-three _ _ _ _ _
 
 -- ---- code 9
 
 -- the session number is below the bar exactly where it is too small
 pub old-is : (s : Store) (c : Commit) (sessions : List ℕ) → SoundStore s → KeepsSessions s sessions → c .client < maxClients
-    → T (oldNumber s c) ↔ (c .session < getD sessions (2 * maxClients + c .client) 0)
+    → T (oldNumber s c) ↔ (c .session < getD sessions (barPlace (c .client)) 0)
 unfolding oldNumber
 old-is s c sessions h k b = both (both found same) ((k .bar (c .client) b (c .session)) .1, (k .bar (c .client) b (c .session)) .0)
   where
@@ -74,62 +78,37 @@ old-is s c sessions h k b = both (both found same) ((k .bar (c .client) b (c .se
 -- ---- before the commit is made
 
 module _ (i : ℕ) (s : Store) (u : View) (c : Commit) where
-  pub early-old : T (oldNumber s c) → some (refuse 9 i) ≡ earlyRefusal i s u c
+  pub early-old : {a : Refusal} → T (oldNumber s c) → a ≡ refuse 9 i → some a ≡ earlyRefusal i s u c
   unfolding earlyRefusal firstSome when orElse
-  early-old t = ap (λ (x : Bool). orElse (when x (refuse 9 i)) (orElse (mapSome (refusePlace 13 i) (wrongRead s u c)) none)) (sym (T-true (oldNumber s c) t))
+  early-old t q = rw (q, T-true (oldNumber s c) t)
 
-  pub early-wrong : ¬ T (oldNumber s c) → (p : Place) → wrongRead s u c ≡ some p → some (refusePlace 13 i p) ≡ earlyRefusal i s u c
+  pub early-wrong : {a : Refusal} {p : Place} → ¬ T (oldNumber s c) → wrongRead s u c ≡ some p → a ≡ refusePlace 13 i p → some a ≡ earlyRefusal i s u c
   unfolding earlyRefusal firstSome when orElse mapSome
-  early-wrong n p e =
-      ap (λ (x : Option Place). orElse (mapSome (refusePlace 13 i) x) none) (sym e)
-      ∙ ap (λ (x : Bool). orElse (when x (refuse 9 i)) (orElse (mapSome (refusePlace 13 i) (wrongRead s u c)) none)) (sym (T-false (oldNumber s c) n))
+  early-wrong n e q = rw (q, T-false (oldNumber s c) n, e)
 
   pub early-none : ¬ T (oldNumber s c) → wrongRead s u c ≡ none → none ≡ earlyRefusal i s u c
   unfolding earlyRefusal firstSome when orElse mapSome
-  early-none n e =
-      ap (λ (x : Option Place). orElse (mapSome (refusePlace 13 i) x) none) (sym e)
-      ∙ ap (λ (x : Bool). orElse (when x (refuse 9 i)) (orElse (mapSome (refusePlace 13 i) (wrongRead s u c)) none)) (sym (T-false (oldNumber s c) n))
+  early-none n e = rw (T-false (oldNumber s c) n, e)
 
 -- ---- after it is made
 
 module _ (i : ℕ) (g : Configuration) (c : Commit) where
-  abbrev Bad : Option ℕ → Option Place → Option ℕ → Option Refusal
-  Bad a b d = orElse (mapSome (refuseKey 10 i) a) (orElse (mapSome (refusePlace 11 i) b) (orElse (mapSome (refuseKey 14 i) d) none))
+  pub late-bad : {a : Refusal} → maskRefusal i (storeAfter g c) (c .viewAfter) ≡ some a → some a ≡ lateRefusal i g c
+  unfolding lateRefusal orElse
+  late-bad e = rw e
 
-  pub late-is : lateRefusal i g c ≡ Bad (badMask (storeAfter g c) (c .viewAfter)) (halfHeld (storeAfter g c) (c .viewAfter)) (stray (g .store) (viewBefore g c) c)
-  unfolding lateRefusal firstSome
-  late-is = refl
+  pub late-stray : {a : Refusal} {k : ℕ} → maskRefusal i (storeAfter g c) (c .viewAfter) ≡ none → stray (g .store) (viewBefore g c) c ≡ some k → a ≡ refuseKey 14 i k
+      → some a ≡ lateRefusal i g c
+  unfolding lateRefusal orElse mapSome
+  late-stray e d q = rw (q, e, d)
 
-  pub late-bad : (k : ℕ) → badMask (storeAfter g c) (c .viewAfter) ≡ some k → some (refuseKey 10 i k) ≡ lateRefusal i g c
-  unfolding orElse mapSome
-  late-bad k e = ap (λ (x : Option ℕ). Bad x (halfHeld (storeAfter g c) (c .viewAfter)) (stray (g .store) (viewBefore g c) c)) (sym e) ∙ sym late-is
-
-  pub late-half : (p : Place) → badMask (storeAfter g c) (c .viewAfter) ≡ none → halfHeld (storeAfter g c) (c .viewAfter) ≡ some p → some (refusePlace 11 i p) ≡ lateRefusal i g c
-  unfolding orElse mapSome
-  late-half p e h =
-      ap (λ (x : Option Place). Bad none x (stray (g .store) (viewBefore g c) c)) (sym h)
-      ∙ ap (λ (x : Option ℕ). Bad x (halfHeld (storeAfter g c) (c .viewAfter)) (stray (g .store) (viewBefore g c) c)) (sym e) ∙ sym late-is
-
-  late-rest : badMask (storeAfter g c) (c .viewAfter) ≡ none → halfHeld (storeAfter g c) (c .viewAfter) ≡ none
-      → orElse (mapSome (refuseKey 14 i) (stray (g .store) (viewBefore g c) c)) none ≡ lateRefusal i g c
-  unfolding orElse mapSome
-  late-rest e h =
-      ap (λ (x : Option Place). Bad none x (stray (g .store) (viewBefore g c) c)) (sym h)
-      ∙ ap (λ (x : Option ℕ). Bad x (halfHeld (storeAfter g c) (c .viewAfter)) (stray (g .store) (viewBefore g c) c)) (sym e) ∙ sym late-is
-
-  pub late-stray : (k : ℕ) → badMask (storeAfter g c) (c .viewAfter) ≡ none → halfHeld (storeAfter g c) (c .viewAfter) ≡ none
-      → stray (g .store) (viewBefore g c) c ≡ some k → some (refuseKey 14 i k) ≡ lateRefusal i g c
-  unfolding orElse mapSome
-  late-stray k e h d = ap (λ (x : Option ℕ). orElse (mapSome (refuseKey 14 i) x) none) (sym d) ∙ late-rest e h
-
-  pub late-none : badMask (storeAfter g c) (c .viewAfter) ≡ none → halfHeld (storeAfter g c) (c .viewAfter) ≡ none
-      → stray (g .store) (viewBefore g c) c ≡ none → none ≡ lateRefusal i g c
-  unfolding orElse mapSome
-  late-none e h d = ap (λ (x : Option ℕ). orElse (mapSome (refuseKey 14 i) x) none) (sym d) ∙ late-rest e h
+  pub late-none : maskRefusal i (storeAfter g c) (c .viewAfter) ≡ none → stray (g .store) (viewBefore g c) c ≡ none → none ≡ lateRefusal i g c
+  unfolding lateRefusal orElse mapSome
+  late-none e d = rw (e, d)
 
 -- what is known of the view before, and what the search of the masks is given
-module _ (g : Configuration) (c : Commit) (values versions keys fresh views seen : List ℕ) (client : ℕ) (ranks : Set) (n : ℕ)
-    (l : LateGiven g c values versions keys fresh views seen client ranks n) (b : client < maxClients) where
+module _ {g : Configuration} {c : Commit} {values versions keys fresh views seen : List ℕ} {client : ℕ} {ranks : Set} {n me : ℕ}
+    (l : LateGiven g c values versions keys fresh views seen client ranks n me) (b : client < maxClients) where
   pub late-holds : IsSet (getD seen client 0) (D.Holds (history (g .store)) (held (viewBefore g c)))
   late-holds = subst (λ (d : ℕ). IsSet (getD seen client 0) (D.Holds (history (g .store)) (held (g .views d)))) (sym (l .client-is)) (l .in-views .holds client b)
 
@@ -154,20 +133,20 @@ module _ (g : Configuration) (c : Commit) (values versions keys fresh views seen
       row k p = l .in-views .rows client b k (omega (arith, l .keys-are)) ∙ ap (λ (d : ℕ). g .views d k) (sym (l .client-is))
 
   -- the views after it, where the masks are kept as the client's
-  pub late-kept : n ≤ maxKeys → (views′ : List ℕ) (m : ℕ) → Kept fresh (maxKeys * client) n views views′
+  pub late-kept : n ≤ maxKeys → {views′ : List ℕ} (m : ℕ) → Kept fresh (maxKeys * client) n views views′
       → IsSet m (D.Holds (history (storeAfter g c)) (held (c .viewAfter))) → KeepsViews (step g (commit c)) views′ (set seen client m)
-  late-kept few views′ m k s =
+  late-kept few {views′} m k s =
       let own : c .client < maxClients = let e = l .client-is in omega arith in
       subst (λ (d : ℕ). KeepsViews (step g (commit c)) views′ (set seen d m)) (l .client-is)
       (commit-replaces g c n (l .sound) (l .made) few (l .keys-are) own views views′ seen fresh m (l .in-views) (l .in-fresh)
       (subst (λ (d : ℕ). Kept fresh (maxKeys * d) n views views′) (sym (l .client-is)) k) s)
 
 -- the bar as the code reads it
-module _ (s : Store) (u : View) (c : Commit) (sessions versions views values : List ℕ) (client session : ℕ) (ranks : Set) (n : ℕ)
+module _ {s : Store} {u : View} {c : Commit} {sessions versions views values : List ℕ} {client session : ℕ} {ranks : Set} {n : ℕ}
     (g : EarlyGiven s u c sessions versions views values client session ranks n) (b : client < maxClients) where
-  pub bar-is : T (oldNumber s c) ↔ (session < getD sessions (2 * maxClients + client) 0)
+  pub bar-is : T (oldNumber s c) ↔ (session < getD sessions (barPlace client) 0)
   bar-is =
       let own : c .client < maxClients = let e = g .client-is in omega arith in
       subst (λ (d : ℕ). T (oldNumber s c) ↔ (session < getD sessions (2 * maxClients + d) 0)) (g .client-is)
-      (subst (λ (x : ℕ). T (oldNumber s c) ↔ (x < getD sessions (2 * maxClients + c .client) 0)) (g .session-is)
+      (subst (λ (x : ℕ). T (oldNumber s c) ↔ (x < getD sessions (barPlace (c .client)) 0)) (g .session-is)
       (old-is s c sessions (g .given .sound) (g .in-sessions) own))

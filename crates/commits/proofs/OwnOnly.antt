@@ -8,7 +8,7 @@ use lib.Dec.{T}
 use lib.ListN.{getD, set}
 use Rattle.sets.specs.Set.{Set, single, union}
 use Rattle.store.specs.Limits.{maxKeys, maxClients}
-use Rattle.store.specs.Store.{Configuration, nextNumber, Commit, commit}
+use Rattle.store.specs.Store.{Configuration, Commit, commit}
 use Rattle.store.specs.Update.{writes, step, viewBefore}
 use Rattle.growth.specs.Made.{Writes}
 use Rattle.state.specs.Keeps.{IsSet, KeepsOperations, KeepsViews}
@@ -19,6 +19,7 @@ use Rattle.views.specs.Rows.{Kept}
 use Rattle.views.specs.Own.{AddsOwn}
 use Rattle.state.proofs.Ranks.{writes-rank}
 use Rattle.views.proofs.OwnView.{own-good, own-not-stray, own-holds}
+use Rattle.shifts.proofs.Refused.{masks-good}
 use Rattle.commits.specs.Codes.{lateRefusal, LateGiven}
 use Rattle.commits.proofs.Cases.{late-none, late-holds, late-kept}
 
@@ -36,17 +37,17 @@ module _ (ranks : Set) (n me : ℕ) {left : Set} (keys : Left ranks 1 n 0 left) 
 
 -- ---- the view after
 
-module _ (g : Configuration) (c : Commit) (values versions keys fresh views seen : List ℕ) (client : ℕ) (ranks : Set) (n : ℕ)
-    (l : LateGiven g c values versions keys fresh views seen client ranks n) (adds : AddsOwn (g .store) (viewBefore g c) c) where
+module _ {g : Configuration} {c : Commit} {values versions keys fresh views seen : List ℕ} {client : ℕ} {ranks : Set} {n me : ℕ}
+    (l : LateGiven g c values versions keys fresh views seen client ranks n me) (adds : AddsOwn (g .store) (viewBefore g c) c) where
   -- no code is due
   pub own-not-refused : (i : ℕ) → none ≡ lateRefusal i g c
   own-not-refused i =
       let good = own-good (g .store) (viewBefore g c) c (l .made) adds in
-      late-none i g c (good .0) (good .1) (own-not-stray (g .store) (viewBefore g c) c (l .made) adds)
+      late-none i g c (masks-good i _ _ (good .0) (good .1)) (own-not-stray (g .store) (viewBefore g c) c (l .made) adds)
 
   -- and the views after it are kept
-  pub own-kept : client < maxClients → n ≤ maxKeys → (me mine : ℕ) → nextNumber (g .store) ≡ me → IsSet mine (λ t. (t ≡ me) × Writes c)
+  pub own-kept : client < maxClients → n ≤ maxKeys → (mine : ℕ) → IsSet mine (λ t. (t ≡ me) × Writes c)
       → {views′ : List ℕ} {m : ℕ} → Kept fresh (maxKeys * client) n views views′ → m ≡ union (getD seen client 0) mine → KeepsViews (step g (commit c)) views′ (set seen client m)
-  own-kept b few me mine e new {views′} {m} k q =
-      late-kept g c values versions keys fresh views seen client ranks n l b few views′ m k
-      (rw q (own-holds (g .store) (viewBefore g c) c (l .made) adds (getD seen client 0) mine (late-holds g c values versions keys fresh views seen client ranks n l b) (subst (λ (x : ℕ). IsSet mine (λ t. (t ≡ x) × Writes c)) (sym e) new)))
+  own-kept b few mine new {views′} {m} k q =
+      late-kept l b few m k
+      (rw q (own-holds (g .store) (viewBefore g c) c (l .made) adds (getD seen client 0) mine (late-holds l b) (subst (λ (x : ℕ). IsSet mine (λ t. (t ≡ x) × Writes c)) (sym (l .number-is)) new)))

@@ -1,19 +1,22 @@
 -- The codes of a commit in two parts, before it is made and after, and what is given where each is asked. Assumes nothing.
-use Prim.Native.Nat.{ℕ, _*_, _≤_, _<_}
+use Prim.Native.Nat.{ℕ, _*_, _≤_}
 use mathlib.Core.Path.{_≡_}
 use mathlib.Core.Option.{Option}
 use mathlib.Core.List.{List, [], _∷_}
-use Rattle.search.specs.Choose.{mapSome, when, firstSome}
+use Rattle.search.specs.Choose.{mapSome, when, orElse, firstSome}
 use Rattle.sets.specs.Set.{Set}
 use Rattle.store.specs.Limits.{maxKeys, maxCommits}
-use Rattle.store.specs.Store.{View, Store, Configuration, nextNumber, Commit}
-use Rattle.store.specs.Update.{viewBefore, storeAfter}
-use Rattle.store.specs.Refusal.{Refusal, refuse, refuseKey, refusePlace, oldNumber, wrongRead, badMask, halfHeld, stray}
+use Rattle.store.specs.Store.{View, Store, Configuration, nextNumber, Commit, commit}
+use Rattle.store.specs.Update.{step, viewBefore, storeAfter}
+use Rattle.store.specs.Refusal.{Refusal, refuse, refuseKey, refusePlace, oldNumber, wrongRead, stray}
 use Rattle.store.specs.Sound.{Sound}
 use Rattle.growth.specs.Made.{Made}
 use Rattle.growth.specs.Ordered.{Ordered}
 use Rattle.state.specs.Keeps.{KeepsSessions, KeepsVersions, KeepsKeys, KeepsViews, KeepsMasks, KeepsOperations}
 use Rattle.operations.specs.Given.{Given}
+use Rattle.shifts.specs.declared.Outcome.{Outcome}
+use Rattle.shifts.specs.declared.Outcome.the-variants.{Taken}
+use Rattle.shifts.specs.Outcomes.{outcomeOf, maskRefusal}
 
 -- codes 9 and 13
 unfoldable pub earlyRefusal : ℕ → Store → View → Commit → Option Refusal
@@ -21,12 +24,7 @@ earlyRefusal i s u c = firstSome (when (oldNumber s c) (refuse 9 i) ∷ mapSome 
 
 -- codes 10, 11 and 14
 unfoldable pub lateRefusal : ℕ → Configuration → Commit → Option Refusal
-lateRefusal i g c =
-    firstSome
-    (mapSome (refuseKey 10 i) (badMask (storeAfter g c) (c .viewAfter))
-    ∷ mapSome (refusePlace 11 i) (halfHeld (storeAfter g c) (c .viewAfter))
-    ∷ mapSome (refuseKey 14 i) (stray (g .store) (viewBefore g c) c)
-    ∷ [])
+lateRefusal i g c = orElse (maskRefusal i (storeAfter g c) (c .viewAfter)) (mapSome (refuseKey 14 i) (stray (g .store) (viewBefore g c) c))
 
 -- before the commit is made
 pub record EarlyGiven (s : Store) (u : View) (c : Commit) (sessions versions views values : List ℕ) (client session : ℕ) (ranks : Set) (n : ℕ) : Type 0 where
@@ -36,15 +34,20 @@ pub record EarlyGiven (s : Store) (u : View) (c : Commit) (sessions versions vie
   pub session-is : c .session ≡ session
 
 -- after it is made: the versions and keys are those of the store after it, the views are those before
-pub record LateGiven (g : Configuration) (c : Commit) (values versions keys fresh views seen : List ℕ) (client : ℕ) (ranks : Set) (n : ℕ) : Type 0 where
+pub record LateGiven (g : Configuration) (c : Commit) (values versions keys fresh views seen : List ℕ) (client : ℕ) (ranks : Set) (n me : ℕ) : Type 0 where
   pub sound : Sound g
   pub made : Made (g .store) (viewBefore g c) c
   pub ordered : Ordered (g .store)
   pub keys-are : g .store .keys ≡ n
   pub room-left : nextNumber (g .store) ≤ maxCommits
   pub client-is : c .client ≡ client
+  pub number-is : nextNumber (g .store) ≡ me
   pub operations : KeepsOperations c ranks values
   pub in-versions : KeepsVersions (storeAfter g c) versions
   pub in-keys : KeepsKeys (storeAfter g c) keys
   pub in-fresh : KeepsMasks n (c .viewAfter) fresh
   pub in-views : KeepsViews g views seen
+
+-- and what is answered then: the refusal that is due, and where none is, the views after the commit are kept
+abbrev pub LateSays : ℕ → Configuration → Commit → List ℕ → List ℕ → Outcome → Type 0
+LateSays i g c views seen r = (outcomeOf r ≡ lateRefusal i g c) × (r ≡ Taken → KeepsViews (step g (commit c)) views seen)

@@ -1,19 +1,25 @@
 -- A commit in a record of the file, and what is given where it is read and made. Assumes nothing.
-use Prim.Native.Nat.{ℕ, _*_, _^_, _≤_, _<_}
+use Prim.Native.Nat.{ℕ, _^_, _≤_, _<_}
 use mathlib.Core.Path.{_≡_}
 use mathlib.Core.Option.{Option, none}
 use mathlib.Core.List.{List}
 use lib.ListN.{getD}
+use Rattle.search.specs.Choose.{orElse}
 use Rattle.sets.specs.Set.{Set}
 use Rattle.store.specs.Limits.{maxClients, maxCommits}
-use Rattle.store.specs.Store.{Configuration, nextNumber, Commit}
-use Rattle.store.specs.Update.{viewBefore}
+use Rattle.store.specs.Store.{Configuration, nextNumber, Commit, Event}
+use Rattle.store.specs.Update.{step, viewBefore}
+use Rattle.store.specs.Refusal.{refusesEvent}
 use Rattle.store.specs.Sound.{Sound}
 use Rattle.growth.specs.Ordered.{Ordered}
 use Rattle.trace.specs.Format.{viewAt, operationsAt}
 use Rattle.trace.specs.WellFormed.{FitsCommit}
-use Rattle.state.specs.Keeps.{KeepsVersions, KeepsViews, KeepsSessions, KeepsMasks, KeepsOperations, Keeps}
+use Rattle.state.specs.Keeps.{KeepsMasks, KeepsOperations, Keeps}
 use Rattle.shifts.specs.Outcomes.{outcomeOf}
+use Rattle.levels.specs.Level.{Level, Failure, failsEvent}
+use Rattle.verdicts.specs.Verdicts.{KeepsVerdicts}
+use Rattle.shifts.specs.declared.Outcome.{Outcome}
+use Rattle.shifts.specs.declared.Outcome.the-variants.{Taken}
 use Rattle.commits.specs.Codes.{earlyRefusal}
 use Rattle.commits.specs.declared.record.CommitAt.{CommitAt}
 use Rattle.commits.specs.declared.record.Begun.{Begun}
@@ -43,6 +49,25 @@ pub record Recorded (g : Configuration) (c : Commit) (clients n : ℕ) (versions
 
 -- what is known of it before it is made
 pub record BegunAs (i : ℕ) (g : Configuration) (c : Commit) (n : ℕ) (values fresh : List ℕ) (r : Begun) : Type 0 where
-  pub answer : outcomeOf i (r .outcome) ≡ earlyRefusal i (g .store) (viewBefore g c) c
+  pub answer : outcomeOf (r .outcome) ≡ earlyRefusal i (g .store) (viewBefore g c) c
   pub operations : KeepsOperations c (r .ranks) values
   pub masks : KeepsMasks n (c .viewAfter) fresh
+
+-- it is ready to be made: it is not refused before, and its parts are at hand
+pub record Ready (i : ℕ) (g : Configuration) (c : Commit) (clients client session : ℕ) (ranks : Set) (n me : ℕ)
+    (versions keys views seen sessions commits links values fresh : List ℕ) : Type 0 where
+  pub recorded : Recorded g c clients n versions keys views seen sessions commits links
+  pub client-is : c .client ≡ client
+  pub session-is : c .session ≡ session
+  pub number-is : nextNumber (g .store) ≡ me
+  pub operations : KeepsOperations c ranks values
+  pub masks : KeepsMasks n (c .viewAfter) fresh
+  pub not-refused : earlyRefusal i (g .store) (viewBefore g c) c ≡ none
+
+-- ---- what a record comes to
+
+-- event e was done: its outcome is the refusal that is due, and where none is, the arrays keep what it leads to
+pub record EventDone (i : ℕ) (g : Configuration) (fs : Level → Option Failure) (e : Event) (versions keys views seen sessions commits links verdicts values : List ℕ) (o : Outcome) : Type 0 where
+  pub answer : outcomeOf o ≡ refusesEvent i g e
+  pub small : ValuesFit values
+  pub kept : o ≡ Taken → Keeps (step g e) versions keys views seen sessions commits links × KeepsVerdicts (λ l. orElse (fs l) (failsEvent l i g e)) verdicts

@@ -2,24 +2,20 @@
 use crate::early::early;
 use crate::late::late;
 use shifts::Outcome;
+use state::CommitNumber;
 ghost use Prim.Native.Nat.{ℕ, _+_, _*_, _≤_, _<_};
 ghost use mathlib.Core.Path.{_≡_};
 ghost use mathlib.Core.Bool.{true};
-ghost use mathlib.Core.Option.{Option, none};
+ghost use mathlib.Core.Option.{Option};
 ghost use mathlib.Core.List.{List};
 ghost use lib.ListN.{length};
-ghost use Rattle.search.specs.Choose.{orElse};
+ghost use Rattle.store.specs.Limits.{maxKeys, maxClients, numbers};
 ghost use Rattle.store.specs.Store.{Configuration, Commit, nextNumber, commit};
-ghost use Rattle.store.specs.Update.{step, viewBefore};
-ghost use Rattle.store.specs.Refusal.{refusesEvent};
 ghost use Rattle.trace.specs.Format.{operationsFit};
-ghost use Rattle.levels.specs.Level.{Level, Failure, failsEvent};
-ghost use Rattle.state.specs.Keeps.{Keeps, KeepsOperations, KeepsMasks};
-ghost use Rattle.verdicts.specs.Verdicts.{KeepsVerdicts};
-ghost use Rattle.shifts.specs.declared.Outcome.the-variants.{Taken};
-ghost use Rattle.shifts.specs.Outcomes.{outcomeOf};
-ghost use Rattle.commits.specs.Codes.{earlyRefusal, lateRefusal};
-ghost use Rattle.commits.specs.Records.{ValuesFit, commitIn, Recorded, BegunAs};
+ghost use Rattle.levels.specs.Level.{Level, Failure};
+ghost use Rattle.state.specs.Room.{VersionsRoom, ViewsRoom, SessionsRoom, FreshRoom, ValuesRoom, Room};
+ghost use Rattle.verdicts.specs.Verdicts.{VerdictsRoom, KeepsVerdicts};
+ghost use Rattle.commits.specs.Records.{ValuesFit, commitIn, Recorded, BegunAs, Ready, EventDone};
 
 // Where the parts of a commit stand in the file.
 pub struct CommitAt {
@@ -40,6 +36,7 @@ pub struct Begun {
 fn begin(
     file: &[u8],
     at: CommitAt,
+    number: usize,
     versions: &[u64],
     views: &[u64],
     sessions: &[u64],
@@ -47,13 +44,13 @@ fn begin(
     fresh: &mut [u64],
     n: usize,
 ) -> Begun
-    requires { ⌜ (n ≤ 16) × (at .client < 16) × (at .masks + 8 * n ≤ length (now file)) × (at .operations + 8 * at .count ≤ length (now file)) × (operationsFit (now file) (at .operations) n 0 (at .count) ≡ true) ⌝ }
-    requires { ⌜ (length (now versions) ≡ 2048) × (length (now views) ≡ 256) × (length (now sessions) ≡ 48) × (length (now values) ≡ 32) × (length (now fresh) ≡ 16) ⌝ }
+    requires { ⌜ (n ≤ maxKeys) × (at .client < maxClients) × (at .masks + 8 * n ≤ length (now file)) × (at .operations + 8 * at .count ≤ length (now file)) × (operationsFit (now file) (at .operations) n 0 (at .count) ≡ true) ⌝ }
+    requires { ⌜ VersionsRoom (now versions) × ViewsRoom (now views) × SessionsRoom (now sessions) × ValuesRoom (now values) × FreshRoom (now fresh) ⌝ }
     ensures { λ r. ⌜
-        ((g : Configuration) (clients i : ℕ) (keys seen commits links : List ℕ)
+        ((g : Configuration) (clients : ℕ) (keys seen commits links : List ℕ)
         → Recorded g (commitIn (now (file .entry)) at n) clients n (now (versions .entry)) keys (now (views .entry)) seen (now (sessions .entry)) commits links
         → ValuesFit (now (values .entry))
-        → BegunAs i g (commitIn (now (file .entry)) at n) n (now (values .exit)) (now (fresh .exit)) r)
+        → BegunAs number g (commitIn (now (file .entry)) at n) n (now (values .exit)) (now (fresh .exit)) r)
         ⌝ }
 {
     let client = at.client;
@@ -63,7 +60,17 @@ fn begin(
     let count = at.count;
     trace::contents::masks_into(file, masks, fresh, n);
     let ranks = trace::contents::sort_operations(file, operations, count, values);
-    let outcome = early(sessions, versions, views, values, client, session, ranks, n);
+    let outcome = early(
+        number,
+        sessions,
+        versions,
+        views,
+        values,
+        client,
+        session,
+        ranks,
+        n,
+    );
     Begun { outcome, ranks }
 }
 
@@ -85,27 +92,18 @@ fn complete(
     values: &[u64],
     fresh: &[u64],
     n: usize,
-    me: usize,
+    me: CommitNumber,
 ) -> Outcome
-    requires { ⌜ (1 ≤ n) × (n ≤ 16) × (client < 16) × (me < 64) × (length (now values) ≡ 32) × (length (now fresh) ≡ 16) × (length (now verdicts) ≡ 40) ⌝ }
-    requires { ⌜ (length (now versions) ≡ 2048) × (length (now keys) ≡ 32) × (length (now views) ≡ 256) × (length (now seen) ≡ 16) × (length (now sessions) ≡ 48) × (length (now commits) ≡ 192) × (length (now links) ≡ 160) ⌝ }
-    ensures answer { λ r. ⌜
-        ((g : Configuration) (c : Commit) (clients i : ℕ)
-        → Recorded g c clients n (now (versions .entry)) (now (keys .entry)) (now (views .entry)) (now (seen .entry)) (now (sessions .entry)) (now (commits .entry)) (now (links .entry))
-        → c .client ≡ client → c .session ≡ session → nextNumber (g .store) ≡ me → KeepsOperations c ranks (now (values .entry)) → KeepsMasks n (c .viewAfter) (now (fresh .entry))
-        → earlyRefusal i (g .store) (viewBefore g c) c ≡ none
-        → outcomeOf i r ≡ lateRefusal i g c)
-        ⌝ }
-    ensures kept { λ r. ⌜
+    requires { ⌜ (1 ≤ n) × (n ≤ maxKeys) × (client < maxClients) × (me .0 < numbers) × ValuesRoom (now values) × FreshRoom (now fresh) × VerdictsRoom (now verdicts) ⌝ }
+    requires { ⌜ Room (now versions) (now keys) (now views) (now seen) (now sessions) (now commits) (now links) ⌝ }
+    ensures { λ r. ⌜
         ((g : Configuration) (c : Commit) (clients : ℕ) (fs : Level → Option Failure)
-        → Recorded g c clients n (now (versions .entry)) (now (keys .entry)) (now (views .entry)) (now (seen .entry)) (now (sessions .entry)) (now (commits .entry)) (now (links .entry))
-        → c .client ≡ client → c .session ≡ session → nextNumber (g .store) ≡ me → KeepsOperations c ranks (now (values .entry)) → KeepsMasks n (c .viewAfter) (now (fresh .entry))
-        → earlyRefusal number (g .store) (viewBefore g c) c ≡ none → KeepsVerdicts fs (now (verdicts .entry)) → r ≡ Taken
-        → Keeps (step g (commit c)) (now (versions .exit)) (now (keys .exit)) (now (views .exit)) (now (seen .exit)) (now (sessions .exit)) (now (commits .exit)) (now (links .exit))
-        × KeepsVerdicts (λ l. orElse (fs l) (failsEvent l number g (commit c))) (now (verdicts .exit)))
+        → Ready number g c clients client session ranks n (me .0) (now (versions .entry)) (now (keys .entry)) (now (views .entry)) (now (seen .entry)) (now (sessions .entry)) (now (commits .entry)) (now (links .entry)) (now (values .entry)) (now (fresh .entry))
+        → KeepsVerdicts fs (now (verdicts .entry))
+        → EventDone number g fs (commit c) (now (versions .exit)) (now (keys .exit)) (now (views .exit)) (now (seen .exit)) (now (sessions .exit)) (now (commits .exit)) (now (links .exit)) (now (verdicts .exit)) (now (values .entry)) r)
         ⌝ }
 {
-    let plain = views::masks::adds_own(fresh, views, 16 * client, keys, ranks, n);
+    let plain = views::masks::adds_own(fresh, views, state::PER_CLIENT * client, keys, ranks, n);
     verdicts::report::judge(
         verdicts,
         number,
@@ -114,7 +112,7 @@ fn complete(
         commits,
         links,
         views,
-        16 * client,
+        state::PER_CLIENT * client,
         fresh,
         seen[client],
         ranks,
@@ -136,6 +134,7 @@ fn complete(
         me,
     );
     late(
+        number,
         versions,
         keys,
         fresh,
@@ -166,28 +165,34 @@ pub fn commit_to(
     values: &mut [u64],
     fresh: &mut [u64],
     n: usize,
-    me: usize,
+    me: CommitNumber,
 ) -> Outcome
-    requires { ⌜ (1 ≤ n) × (n ≤ 16) × (me < 64) × (at .client < 16) × (at .masks + 8 * n ≤ length (now file)) × (at .operations + 8 * at .count ≤ length (now file)) × (operationsFit (now file) (at .operations) n 0 (at .count) ≡ true) ⌝ }
-    requires { ⌜ (length (now values) ≡ 32) × (length (now fresh) ≡ 16) × (length (now verdicts) ≡ 40) ⌝ }
-    requires { ⌜ (length (now versions) ≡ 2048) × (length (now keys) ≡ 32) × (length (now views) ≡ 256) × (length (now seen) ≡ 16) × (length (now sessions) ≡ 48) × (length (now commits) ≡ 192) × (length (now links) ≡ 160) ⌝ }
+    requires { ⌜ (1 ≤ n) × (n ≤ maxKeys) × (me .0 < numbers) × (at .client < maxClients) × (at .masks + 8 * n ≤ length (now file)) × (at .operations + 8 * at .count ≤ length (now file)) × (operationsFit (now file) (at .operations) n 0 (at .count) ≡ true) ⌝ }
+    requires { ⌜ ValuesRoom (now values) × FreshRoom (now fresh) × VerdictsRoom (now verdicts) ⌝ }
+    requires { ⌜ Room (now versions) (now keys) (now views) (now seen) (now sessions) (now commits) (now links) ⌝ }
     ensures { λ r. ⌜
         ((g : Configuration) (clients : ℕ) (fs : Level → Option Failure)
         → Recorded g (commitIn (now (file .entry)) at n) clients n (now (versions .entry)) (now (keys .entry)) (now (views .entry)) (now (seen .entry)) (now (sessions .entry)) (now (commits .entry)) (now (links .entry))
-        → nextNumber (g .store) ≡ me → ValuesFit (now (values .entry)) → KeepsVerdicts fs (now (verdicts .entry))
-        → (outcomeOf number r ≡ refusesEvent number g (commit (commitIn (now (file .entry)) at n)))
-        × ValuesFit (now (values .exit))
-        × (r ≡ Taken
-        → Keeps (step g (commit (commitIn (now (file .entry)) at n))) (now (versions .exit)) (now (keys .exit)) (now (views .exit)) (now (seen .exit)) (now (sessions .exit)) (now (commits .exit)) (now (links .exit))
-        × KeepsVerdicts (λ l. orElse (fs l) (failsEvent l number g (commit (commitIn (now (file .entry)) at n)))) (now (verdicts .exit))))
+        → nextNumber (g .store) ≡ me .0 → ValuesFit (now (values .entry)) → KeepsVerdicts fs (now (verdicts .entry))
+        → EventDone number g fs (commit (commitIn (now (file .entry)) at n)) (now (versions .exit)) (now (keys .exit)) (now (views .exit)) (now (seen .exit)) (now (sessions .exit)) (now (commits .exit)) (now (links .exit)) (now (verdicts .exit)) (now (values .exit)) r)
         ⌝ }
 {
     let client = at.client;
     let session = at.session;
-    let b = begin(file, at, versions, views, sessions, values, fresh, n);
+    let b = begin(
+        file,
+        at,
+        number,
+        versions,
+        views,
+        sessions,
+        values,
+        fresh,
+        n,
+    );
     let first = b.outcome;
-    if let Outcome::Refused { code, key, version } = first {
-        return Outcome::Refused { code, key, version };
+    if let Outcome::Refused(r) = first {
+        return Outcome::Refused(r);
     }
     complete(
         number,

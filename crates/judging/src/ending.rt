@@ -1,8 +1,6 @@
 // The end of the call, where a trace is taken: the image is written and the verdicts are answered, or the image buffer is too short for the image.
 use crate::Answer;
-use state::Key;
 use state::Refusal;
-use state::VersionNumber;
 use verdicts::told::Verdicts;
 ghost use mathlib.Core.Path.{_≡_};
 ghost use mathlib.Core.List.{List};
@@ -34,12 +32,7 @@ pub fn finish(
 {
     let whole = image::size(keys, n, count);
     if buffer.len() < whole {
-        return Answer::Refused(Refusal {
-            code: 15,
-            record: 0,
-            key: Key(0),
-            version: VersionNumber(0),
-        });
+        return Answer::Refused(Refusal::of_record(15, 0));
     }
     image::write(buffer, versions, keys, commits, n, count, whole);
     Answer::Judged {

@@ -1,25 +1,21 @@
 -- How the run of a trace begins, goes on after a record, is refused at one, and ends. Assumes nothing.
 use Prim.Native.Nat.{ℕ, zero, suc, _+_, _-_, _≤_, _<_}
 use mathlib.Core.Path.{_≡_, refl, sym, ap, _∙_, subst, subst₂}
-use mathlib.Core.Bool.{Bool, true, false}
-use mathlib.Core.Logic.{_⊎_, inl, inr, _↔_}
 use mathlib.Core.Option.{Option, some, none}
 use mathlib.Core.List.{List, [], _∷_}
 use native.Mathlib.Omega.{arith}
 use native.Mathlib.Numerals.{add-one}
 use native.Mathlib.Decide.{ℕ-discrete}
-use lib.ListN.{length}
 use Rattle.search.specs.Choose.{orElse}
 use Rattle.search.proofs.Choose.{need-ind}
-use Rattle.endian.specs.Endian.{Bytes}
-use Rattle.store.specs.Limits.{maxClients, maxCommits, minBytes}
-use Rattle.store.specs.Store.{Store, Configuration, openingStore, opening, nextNumber, Client, SessionNumber, Operation, Commit, Event, shift, commit}
+use Rattle.store.specs.Limits.{maxCommits, minBytes}
+use Rattle.store.specs.Store.{Configuration, openingStore, opening, nextNumber, Client, SessionNumber, Operation, Event}
+use Rattle.store.specs.Image.{ClientsFit}
 use Rattle.store.specs.Update.{update, step, viewBefore, storeAfter, final, firstAlong}
 use Rattle.store.specs.Refusal.{Refusal, refuse, refusesEvent}
 use Rattle.store.proofs.Updated.{at-same, at-other}
 use Rattle.store.specs.Sound.{Sound, WithinKeys}
 use Rattle.store.specs.View.{FitsView}
-use Rattle.store.specs.Legal.{LegalShift, LegalCommit}
 use Rattle.store.proofs.Sound.{sound-opening, sound-shift, sound-commit}
 use Rattle.store.proofs.Legal.{legal-shift, legal-commit}
 use Rattle.trace.specs.Result.{Result, refused, taken}
@@ -27,11 +23,10 @@ use Rattle.trace.specs.Entry.{Listed, Entry, shifting, committing, over, commit
 use Rattle.trace.specs.Format.{Header, commitsWith, entriesFrom}
 use Rattle.trace.proofs.InForm.{First}
 use Rattle.levels.specs.Level.{Level, Failure, failsEvent}
-use Rattle.growth.specs.Made.{Made}
 use Rattle.growth.proofs.Made.{legal-made}
 use Rattle.growth.specs.Ordered.{Ordered}
 use Rattle.growth.proofs.Ordered.{ordered-opening, ordered-commit}
-use Rattle.run.specs.Along.{ClientsBelow, Along}
+use Rattle.run.specs.Along.{Along}
 
 -- a refusal is not a value
 refused-taken : {A X : Type 0} {r : Refusal} {a : A} → _≡_ {A = Result A} (refused r) (taken a) → X
@@ -100,7 +95,7 @@ module _ (bytes : List ℕ) (h : Header) (es : List Event) (left at n : ℕ) (g 
 
   -- what changes at any record
   along-next : (x : Entry) (next : ℕ) (first : First bytes h n (g .store .commits) left x next rest) → refusesEvent n g (event g x) ≡ none
-      → Sound (step g (event g x)) → Ordered (step g (event g x) .store) → step g (event g x) .store .keys ≡ h .keys → ClientsBelow 256 (step g (event g x) .store)
+      → Sound (step g (event g x)) → Ordered (step g (event g x) .store) → step g (event g x) .store .keys ≡ h .keys → ClientsFit (step g (event g x) .store)
       → After x next first
   unfolding firstAlong final orElse eventsOf
   along-next x next first d s o k c =

@@ -20,14 +20,14 @@ use Rattle.trace.specs.declared.records.Record.{Record}
 use Rattle.trace.specs.declared.records.Record.the-variants.{Shift, Commit}
 use Rattle.trace.specs.declared.records.Reading.the-variants.{Whole}
 use Rattle.levels.specs.Level.{Level, Failure, failsEvent}
-use Rattle.state.specs.Keeps.{KeepsViews, Keeps}
+use Rattle.state.specs.Keeps.{KeepsViews}
 use Rattle.verdicts.specs.Verdicts.{KeepsVerdict, KeepsVerdicts}
 use Rattle.shifts.specs.declared.Outcome.{Outcome}
 use Rattle.shifts.specs.declared.Outcome.the-variants.{Taken}
 use Rattle.shifts.specs.Outcomes.{outcomeOf, ShiftGiven}
 use Rattle.commits.specs.declared.record.CommitAt.{CommitAt}
-use Rattle.commits.specs.Records.{ValuesFit, commitIn, Recorded}
-use Rattle.run.specs.OneRecord.{Readable, Standing, EventDone, Fitting}
+use Rattle.commits.specs.Records.{ValuesFit, commitIn, Recorded, EventDone}
+use Rattle.run.specs.OneRecord.{Readable, Standing, Fitting}
 
 -- ---- the record as it was read
 
@@ -49,7 +49,7 @@ record-readable file bytes at n clients made (Commit client count session operat
 -- ---- a shift
 
 module _ (file : List ℕ) (n client masks made : ℕ) {r : Record} (is : r ≡ Shift client masks) (number : ℕ) {versions keys views seen views′ seen′ : List ℕ} (o : Outcome)
-    (answer : (g : Configuration) (i : ℕ) → ShiftGiven g (viewAt file masks n) n versions keys views seen → outcomeOf i o ≡ refusesEvent i g (shift client (viewAt file masks n)))
+    (answer : (g : Configuration) → ShiftGiven g (viewAt file masks n) n versions keys views seen → outcomeOf o ≡ refusesEvent number g (shift client (viewAt file masks n)))
     (kept : (g : Configuration) → ShiftGiven g (viewAt file masks n) n versions keys views seen → o ≡ Taken → KeepsViews (step g (shift client (viewAt file masks n))) views′ seen′) where
   shift-event : (g : Configuration) → shift client (viewAt file masks n) ≡ event g (entryOf file n r)
   unfolding entryOf event over listedOr
@@ -80,7 +80,7 @@ module _ (file : List ℕ) (n client masks made : ℕ) {r : Record} (is : r ≡ 
         → EventDone number g fs (shift client (viewAt file masks n)) versions keys views′ seen′ sessions commits links verdicts values o
     unfolding step
     shift-done given = record {
-      answer = answer g number given;
+      answer = answer g given;
       small = s .small;
       kept = λ q. (
         record {
@@ -113,10 +113,7 @@ module _ (file : List ℕ) (n : ℕ) (at : CommitAt) (made : ℕ) {r : Record} (
   module _ (number : ℕ) {versions keys views seen sessions commits links verdicts values : List ℕ} {versions′ keys′ views′ seen′ sessions′ commits′ links′ verdicts′ : List ℕ} (values′ : List ℕ) (o : Outcome)
       (done : (g : Configuration) (clients : ℕ) (fs : Level → Option Failure)
       → Recorded g (commitIn file at n) clients n versions keys views seen sessions commits links → nextNumber (g .store) ≡ made + 1 → ValuesFit values → KeepsVerdicts fs verdicts
-      → (outcomeOf number o ≡ refusesEvent number g (commit (commitIn file at n))) × ValuesFit values′
-      × (o ≡ Taken
-      → Keeps (step g (commit (commitIn file at n))) versions′ keys′ views′ seen′ sessions′ commits′ links′
-      × KeepsVerdicts (λ l. orElse (fs l) (failsEvent l number g (commit (commitIn file at n)))) verdicts′))
+      → EventDone number g fs (commit (commitIn file at n)) versions′ keys′ views′ seen′ sessions′ commits′ links′ verdicts′ values′ o)
       (g : Configuration) (fs : Level → Option Failure) (s : Standing g fs n made versions keys views seen sessions commits links verdicts values) (room : made < maxCommits) where
     recorded : (clients : ℕ) → clients ≤ maxClients → FitsEvent n clients (commit (commitIn file at n))
         → Recorded g (commitIn file at n) clients n versions keys views seen sessions commits links
@@ -130,13 +127,8 @@ module _ (file : List ℕ) (n : ℕ) (at : CommitAt) (made : ℕ) {r : Record} (
       keeps = s .keeps;
     }
 
-    commit-done : (clients : ℕ) → Recorded g (commitIn file at n) clients n versions keys views seen sessions commits links
-        → EventDone number g fs (commit (commitIn file at n)) versions′ keys′ views′ seen′ sessions′ commits′ links′ verdicts′ values′ o
-    commit-done clients given =
-        let (answer, small, kept) = done g clients fs given (omega (arith, s .counted)) (s .small) (s .failures) in record { answer = answer; small = small; kept = kept }
-
     pub commit-one : (clients : ℕ) → Fitting file n clients r
         → EventDone number g fs (event g (entryOf file n r)) versions′ keys′ views′ seen′ sessions′ commits′ links′ verdicts′ values′ o
     commit-one clients f =
         subst (λ (e : Event). EventDone number g fs e versions′ keys′ views′ seen′ sessions′ commits′ links′ verdicts′ values′ o) (commit-event g)
-        (commit-done clients (recorded clients (f .few-clients) (subst (FitsEvent n clients) (sym (commit-event g)) (f .fits g (sound-fits (s .sound) (s .keys-are))))))
+        (done g clients fs (recorded clients (f .few-clients) (subst (FitsEvent n clients) (sym (commit-event g)) (f .fits g (sound-fits (s .sound) (s .keys-are))))) (omega (arith, s .counted)) (s .small) (s .failures))

@@ -9,6 +9,7 @@ use Rattle.search.specs.Choose.{orElse}
 use Rattle.endian.specs.Endian.{Bytes}
 use Rattle.store.specs.Limits.{maxClients, maxCommits, minBytes}
 use Rattle.store.specs.Store.{Configuration, openingStore, opening}
+use Rattle.store.specs.Image.{ClientsFit}
 use Rattle.store.specs.Update.{step, firstAlong}
 use Rattle.store.specs.Refusal.{refusesEvent}
 use Rattle.store.specs.Sound.{Sound, WithinKeys}
@@ -25,17 +26,17 @@ use Rattle.trace.proofs.Entries.{sound-fits}
 use Rattle.trace.proofs.Fits.{commit-fits}
 use Rattle.trace.proofs.InForm.{First, first-in-form, entries-first}
 use Rattle.levels.specs.Level.{Level, Failure, failsEvent}
-use Rattle.state.specs.declared.Key.{Key}
-use Rattle.state.specs.declared.VersionNumber.{VersionNumber}
+use Rattle.state.specs.declared.Refusal.{Refusal}
+use Rattle.state.specs.Answers.{refusalOf}
 use Rattle.state.specs.Keeps.{Keeps}
 use Rattle.verdicts.specs.Verdicts.{KeepsVerdict, KeepsVerdicts}
 use Rattle.shifts.specs.declared.Outcome.{Outcome}
 use Rattle.shifts.specs.declared.Outcome.the-variants.{Taken, Refused}
 use Rattle.shifts.specs.Outcomes.{outcomeOf}
-use Rattle.commits.specs.Records.{ValuesFit}
-use Rattle.run.specs.Along.{ClientsBelow, Along}
+use Rattle.commits.specs.Records.{ValuesFit, EventDone}
+use Rattle.run.specs.Along.{Along}
 use Rattle.run.specs.Ran.{Starts, Ended}
-use Rattle.run.specs.OneRecord.{Readable, Standing, EventDone, Fitting}
+use Rattle.run.specs.OneRecord.{Readable, Standing, Fitting}
 use Rattle.run.proofs.Along.{along-start, nothing-left, commits-after, along-refused, along-end, along-shift, along-commit}
 use Rattle.run.proofs.OneRecord.{record-readable}
 
@@ -84,7 +85,7 @@ module _ {file : List ℕ} {n clients records : ℕ} {rs : List Entry} where
           counted = ap (λ (g : Configuration). g .store .commits) ends ∙ s .counted;
           sound = subst Sound (sym ends) (s .along .sound);
           keys-are = ap (λ (g : Configuration). g .store .keys) ends ∙ s .along .keys-are;
-          clients-fit = subst (λ (g : Configuration). ClientsBelow 256 (g .store)) (sym ends) (s .along .clients-fit);
+          clients-fit = subst (λ (g : Configuration). ClientsFit (g .store)) (sym ends) (s .along .clients-fit);
           keeps = subst (λ (g : Configuration). Keeps g versions keys views seen sessions commits links) (sym ends) (s .keeps);
           failures = failures-same verdicts-are (s .failures);
         }
@@ -162,15 +163,15 @@ module _ {file : List ℕ} {n clients records : ℕ} {rs : List Entry} where
               g = step (s .g) (event (s .g) (entryOf file n r));
               rest = first .others;
               fs = λ l. orElse (s .fs l) (failsEvent l number (s .g) (event (s .g) (entryOf file n r)));
-              along = along-on (entryOf file n r) fits first (sym (done .answer) ∙ ap (outcomeOf number) q);
+              along = along-on (entryOf file n r) fits first (sym (done .answer) ∙ ap outcomeOf q);
               counted = commits-after (s .g) (entryOf file n r) ∙ ap (commitsWith (entryOf file n r)) (s .counted) ∙ sym counted;
               keeps = keeps;
               failures = failures;
               small = done .small;
             }
 
-        pub run-stops : {code : ℕ} {k : Key} {v : VersionNumber} → o ≡ Refused code k v
-            → firstAlong refusesEvent 1 (opening n) (eventsOf (opening n) rs) ≡ some (record { code = code; atRecord = number; key = k .0; version = v .0 })
+        pub run-stops : {x : Refusal} → o ≡ Refused x
+            → firstAlong refusesEvent 1 (opening n) (eventsOf (opening n) rs) ≡ some (refusalOf x)
         run-stops q =
             along-refused file (header n clients records) (eventsOf (opening n) rs) left at number (s .g) (s .rest) (s .fs) (s .along) (entryOf file n r) (first .others) (first .is-first) _
-            (sym (done .answer) ∙ ap (outcomeOf number) q)
+            (sym (done .answer) ∙ ap outcomeOf q)

@@ -4,27 +4,21 @@ mod one; // one.rt: one record
 
 use one::one_record;
 use shifts::Outcome;
-use state::Key;
-use state::VersionNumber;
-ghost use Prim.Native.Nat.{_≤_, _<_};
-ghost use mathlib.Core.Path.{_≡_};
+use state::Refusal;
+ghost use Prim.Native.Nat.{_^_, _≤_, _<_};
 ghost use mathlib.Core.List.{List};
 ghost use lib.ListN.{length};
+ghost use Rattle.store.specs.Limits.{maxKeys, maxClients, minBytes, maxBytes};
 ghost use Rattle.store.specs.Store.{opening};
 ghost use Rattle.trace.specs.Entry.{Entry, eventsOf};
+ghost use Rattle.state.specs.Room.{Room, ValuesRoom, FreshRoom};
+ghost use Rattle.verdicts.specs.Verdicts.{VerdictsRoom};
 ghost use Rattle.run.specs.Ran.{Starts, RanSays};
 
 // What the run of a trace comes to: all records are done, with so many commits, or one is refused.
 pub enum Ran {
-    Done {
-        commits: usize,
-    },
-    Refused {
-        code: usize,
-        record: usize,
-        key: Key,
-        version: VersionNumber,
-    },
+    Done { commits: usize },
+    Refused(Refusal),
 }
 
 // The run of the records of a file in form, from the opening arrays on, up to the end or to the first record that is refused.
@@ -44,9 +38,9 @@ pub fn run_all(
     values: &mut [u64],
     fresh: &mut [u64],
 ) -> Ran
-    requires { ⌜ (1 ≤ n) × (n ≤ 16) × (clients ≤ 16) × (12 ≤ length (now file)) × (length (now file) ≤ 65536) × (records < 65536) ⌝ }
-    requires { ⌜ (length (now verdicts) ≡ 40) × (length (now values) ≡ 32) × (length (now fresh) ≡ 16) ⌝ }
-    requires { ⌜ (length (now versions) ≡ 2048) × (length (now keys) ≡ 32) × (length (now views) ≡ 256) × (length (now seen) ≡ 16) × (length (now sessions) ≡ 48) × (length (now commits) ≡ 192) × (length (now links) ≡ 160) ⌝ }
+    requires { ⌜ (1 ≤ n) × (n ≤ maxKeys) × (clients ≤ maxClients) × (minBytes ≤ length (now file)) × (length (now file) ≤ maxBytes) × (records < 2 ^ 16) ⌝ }
+    requires { ⌜ ValuesRoom (now values) × FreshRoom (now fresh) × VerdictsRoom (now verdicts) ⌝ }
+    requires { ⌜ Room (now versions) (now keys) (now views) (now seen) (now sessions) (now commits) (now links) ⌝ }
     requires { ⌜ ((rs : List Entry) × Starts (now file) n clients records rs (now versions) (now keys) (now views) (now seen) (now sessions) (now commits) (now links) (now verdicts) (now values)) ⌝ }
     ensures { λ r. ⌜
         ((rs : List Entry)
@@ -78,13 +72,8 @@ pub fn run_all(
             fresh,
             n,
         );
-        if let Outcome::Refused { code, key, version } = outcome {
-            return Ran::Refused {
-                code,
-                record: number,
-                key,
-                version,
-            };
+        if let Outcome::Refused(refusal) = outcome {
+            return Ran::Refused(refusal);
         }
         made = trace::records::commits_with(record, made);
         at = known.next;

@@ -3,18 +3,21 @@ use commits::record::CommitAt;
 use commits::record::commit_to;
 use shifts::Outcome;
 use shifts::shift::shift_to;
+use state::CommitNumber;
 use trace::records::Record;
 ghost use Prim.Native.Nat.{ℕ, _≤_};
-ghost use mathlib.Core.Path.{_≡_};
 ghost use mathlib.Core.Option.{Option};
-ghost use lib.ListN.{length};
+ghost use Rattle.store.specs.Limits.{maxKeys};
 ghost use Rattle.store.specs.Store.{Configuration};
 ghost use Rattle.trace.specs.Entry.{event};
 ghost use Rattle.trace.specs.Meaning.{entryOf};
 ghost use Rattle.levels.specs.Level.{Level, Failure};
-ghost use Rattle.run.specs.OneRecord.{Readable, Standing, EventDone, Fitting};
+ghost use Rattle.state.specs.Room.{Room, ValuesRoom, FreshRoom};
+ghost use Rattle.verdicts.specs.Verdicts.{VerdictsRoom};
+ghost use Rattle.commits.specs.Records.{EventDone};
+ghost use Rattle.run.specs.OneRecord.{Readable, Standing, Fitting};
 
-// A record of the file, done: a view shift, or a commit, which is no 64th one.
+// A record of the file, done: a view shift, or a commit for which there is a number left.
 pub fn one_record(
     file: &[u8],
     r: Record,
@@ -32,8 +35,9 @@ pub fn one_record(
     fresh: &mut [u64],
     n: usize,
 ) -> Outcome
-    requires { ⌜ (1 ≤ n) × (n ≤ 16) × Readable (now file) n made r × (length (now verdicts) ≡ 40) × (length (now values) ≡ 32) × (length (now fresh) ≡ 16) ⌝ }
-    requires { ⌜ (length (now versions) ≡ 2048) × (length (now keys) ≡ 32) × (length (now views) ≡ 256) × (length (now seen) ≡ 16) × (length (now sessions) ≡ 48) × (length (now commits) ≡ 192) × (length (now links) ≡ 160) ⌝ }
+    requires { ⌜ (1 ≤ n) × (n ≤ maxKeys) × Readable (now file) n made r ⌝ }
+    requires { ⌜ ValuesRoom (now values) × FreshRoom (now fresh) × VerdictsRoom (now verdicts) ⌝ }
+    requires { ⌜ Room (now versions) (now keys) (now views) (now seen) (now sessions) (now commits) (now links) ⌝ }
     ensures { λ o. ⌜
         ((g : Configuration) (fs : Level → Option Failure) (clients : ℕ) → Fitting (now (file .entry)) n clients r
         → Standing g fs n made (now (versions .entry)) (now (keys .entry)) (now (views .entry)) (now (seen .entry)) (now (sessions .entry)) (now (commits .entry)) (now (links .entry)) (now (verdicts .entry)) (now (values .entry))
@@ -42,7 +46,18 @@ pub fn one_record(
 {
     match r {
         Record::Shift { client, masks } => {
-            shift_to(file, masks, client, versions, keys, views, seen, fresh, n)
+            shift_to(
+                file,
+                masks,
+                number,
+                client,
+                versions,
+                keys,
+                views,
+                seen,
+                fresh,
+                n,
+            )
         }
         Record::Commit {
             client,
@@ -73,7 +88,7 @@ pub fn one_record(
                 values,
                 fresh,
                 n,
-                made + 1,
+                CommitNumber(made + 1),
             )
         }
     }

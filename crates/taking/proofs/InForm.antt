@@ -25,8 +25,8 @@ use Rattle.levels.specs.Level.{Level, Failure, firstFailure}
 use Rattle.answer.specs.Answer.{accept, verdict}
 use Rattle.state.specs.Places.{versionsLength, keysLength, viewsLength, seenLength, sessionsLength, commitsLength, linksLength, valuesLength}
 use Rattle.state.proofs.Opening.{filled, keeps-opening}
-use Rattle.state.specs.declared.Key.{Key}
-use Rattle.state.specs.declared.VersionNumber.{VersionNumber}
+use Rattle.state.specs.Answers.{refusalOf}
+use Rattle.state.specs.declared.Refusal.{Refusal}
 use Rattle.verdicts.specs.Verdicts.{verdictsLength, KeepsVerdict, KeepsVerdicts}
 use Rattle.verdicts.specs.Told.{tellAll, verdictsOf}
 use Rattle.verdicts.specs.declared.told.Verdicts.{Verdicts}
@@ -131,6 +131,5 @@ module _ (n : ℕ) (es : List Event) (versions keys views seen sessions commits 
   pub ran-done : {count : ℕ} → r ≡ Done count → Ended n es count versions keys views seen sessions commits links verdicts
   ran-done e = subst (RanSays n es versions keys views seen sessions commits links verdicts) e says
 
-  pub ran-refused : {code i : ℕ} {k : Key} {v : VersionNumber} → r ≡ Refused code i k v
-      → firstAlong refusesEvent 1 (opening n) es ≡ some (record { code = code; atRecord = i; key = k .0; version = v .0 })
+  pub ran-refused : {why : Refusal} → r ≡ Refused why → firstAlong refusesEvent 1 (opening n) es ≡ some (refusalOf why)
   ran-refused e = subst (RanSays n es versions keys views seen sessions commits links verdicts) e says

@@ -2,9 +2,7 @@
 // keep its last store, and the answer has its verdicts. Whatever a call makes of a taken trace comes after this and is its own: the call makes the
 // arrays of the opening store, lends them here, and ends with what it writes or answers.
 use run::Ran;
-use state::Key;
 use state::Refusal;
-use state::VersionNumber;
 use store::Store;
 use trace::form::Form;
 use trace::form::Header;
@@ -44,7 +42,7 @@ fn take_records(
     let mut seen = s.seen;
     let mut sessions = s.sessions;
     let mut links = s.links;
-    let mut noted = [0u64; verdicts::VERDICTS];
+    let mut noted = [0u64; verdicts::WORDS];
     let mut values = [0u64; state::VALUES];
     let mut fresh = [0u64; state::FRESH];
     let ran = run::run_all(
@@ -64,17 +62,7 @@ fn take_records(
         &mut fresh,
     );
     match ran {
-        Ran::Refused {
-            code,
-            record,
-            key,
-            version,
-        } => Taking::Refused(Refusal {
-            code,
-            record,
-            key,
-            version,
-        }),
+        Ran::Refused(refusal) => Taking::Refused(refusal),
         Ran::Done { commits: count } => Taking::Taken {
             keys: h.keys,
             records: h.records,
@@ -90,12 +78,7 @@ pub fn take_file(file: &[u8], versions: &mut [u64], keys: &mut [u64], commits: &
     ensures { λ r. ⌜ TakingSays (now (file .entry)) (now (versions .exit)) (now (keys .exit)) (now (commits .exit)) r ⌝ }
 {
     match trace::form::form_of(file) {
-        Form::Misshapen { code, record } => Taking::Refused(Refusal {
-            code,
-            record,
-            key: Key(0),
-            version: VersionNumber(0),
-        }),
+        Form::Misshapen { code, record } => Taking::Refused(Refusal::of_record(code, record)),
         Form::Whole(h) => take_records(file, h, versions, keys, commits),
     }
 }

@@ -7,10 +7,9 @@ use state::VersionNumber;
 ghost use mathlib.Core.Path.{_≡_};
 ghost use mathlib.Core.Option.{Option};
 ghost use Prim.Native.Nat.{_<_};
-ghost use lib.ListN.{length};
 ghost use Rattle.search.specs.Choose.{mapSome};
-ghost use Rattle.levels.specs.Level.{Level, levels, Failure};
-ghost use Rattle.verdicts.specs.Verdicts.{verdictsLength, KeepsVerdict, KeepsVerdicts};
+ghost use Rattle.levels.specs.Level.{Level, Failure};
+ghost use Rattle.verdicts.specs.Verdicts.{levelCount, VerdictsRoom, KeepsVerdict, KeepsVerdicts};
 ghost use Rattle.verdicts.specs.Told.{tell, tellAll, verdictOf, verdictsOf};
 
 // What a level says of a trace: it accepts, or it is refused at the first commit that fails it.
@@ -40,7 +39,7 @@ pub struct Verdicts {
 
 // The verdict of the level at place i in report order.
 fn verdict_at(verdicts: &[u64], i: usize) -> Verdict
-    requires { ⌜ (length (now verdicts) ≡ verdictsLength) × (i < length levels) ⌝ }
+    requires { ⌜ VerdictsRoom (now verdicts) × (i < levelCount) ⌝ }
     ensures { λ r. ⌜ ((f : Option Failure) → KeepsVerdict (now (verdicts .entry)) i f → verdictOf r ≡ mapSome tell f) ⌝ }
 {
     let clause = verdicts[i] as usize;
@@ -57,7 +56,7 @@ fn verdict_at(verdicts: &[u64], i: usize) -> Verdict
 
 // The verdicts of all levels.
 pub fn verdicts_from(verdicts: &[u64]) -> Verdicts
-    requires { ⌜ length (now verdicts) ≡ verdictsLength ⌝ }
+    requires { ⌜ VerdictsRoom (now verdicts) ⌝ }
     ensures { λ r. ⌜ ((fs : Level → Option Failure) → KeepsVerdicts fs (now (verdicts .entry)) → verdictsOf r ≡ tellAll fs) ⌝ }
 {
     Verdicts {

@@ -3,10 +3,9 @@
 use Prim.Native.Nat.{ℕ, _+_, _*_}
 use mathlib.Core.Option.{Option, some, none}
 use mathlib.Core.List.{List, [], _∷_, _++_}
-use lib.ListN.{length}
 use Rattle.store.specs.Refusal.{Refusal}
 use Rattle.trace.specs.Result.{Result, refused, taken}
-use Rattle.levels.specs.Level.{levels}
+use Rattle.verdicts.specs.Verdicts.{levelCount}
 use Rattle.verdicts.specs.Told.{Told}
 use Rattle.judging.specs.Answers.{Judged}
 
@@ -52,4 +51,4 @@ abbrev pub answerWords : Result Judged → List ℕ
 answerWords a = wordsOf judgedWords a
 
 abbrev pub answerLength : ℕ
-answerLength = 4 + 4 * length levels
+answerLength = 4 + 4 * levelCount

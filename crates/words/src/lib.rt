@@ -20,7 +20,7 @@ pub const NO_ROOM: u64 = 255;
 pub const ANSWER: usize = 4 + 4 * verdicts::LEVELS;
 
 // A refusal, of whatever call.
-pub fn put_refusal(out: &mut [u64], r: Refusal) -> u64
+fn put_refusal(out: &mut [u64], r: Refusal) -> u64
     requires { ⌜ refusalLength ≤ length (now out) ⌝ }
     ensures { λ c. ⌜ (c ≡ r .code) × (now (out .exit) ≡ putAt (now (out .entry)) 0 (refusalWords (refusalOf r))) ⌝ }
 {

@@ -1,7 +1,7 @@
 -- `run::run_all` meets its contract: before each record the run stands, with its arrays, where the records so far leave it. Assumes nothing.
 use borrow.Author.Needs.{needs}
-use Prim.Native.Nat.{ℕ, _+_, _≤_, _<_}
-use mathlib.Core.Path.{_≡_}
+use Prim.Native.Nat.{_+_, _≤_, _<_}
+use mathlib.Core.Path.{_≡_, _∙_}
 use mathlib.Core.List.{List}
 use native.Mathlib.Omega.{arith}
 use lib.ListN.{length}
@@ -10,19 +10,17 @@ use Rattle.endian.specs.Endian.{Bytes}
 use Rattle.trace.specs.Entry.{Entry}
 use Rattle.trace.specs.Meaning.{RecordSays}
 use Rattle.trace.specs.declared.records.Reading.the-variants.{Whole}
+use Rattle.state.specs.Room.{Room, ValuesRoom, FreshRoom}
+use Rattle.verdicts.specs.Verdicts.{VerdictsRoom}
 use Rattle.run.specs.Ran.{Starts}
 use Rattle.run.proofs.Runs.{Stands, run-starts, few-made, in-form, next-within, readable, run-goes, run-stops, run-ends}
 use Rattle.run.proofs.run_all.Statement.{statement}
 use Rattle.run.proofs.run_all.Tie as tie
 
--- the lengths of the arrays
-abbrev Lengths : (versions keys views seen sessions commits links verdicts values fresh : List ℕ) → Type 0
-Lengths versions keys views seen sessions commits links verdicts values fresh =
-    (length verdicts ≡ 40) × (length values ≡ 32) × (length fresh ≡ 16) × (length versions ≡ 2048) × (length keys ≡ 32) × (length views ≡ 256) × (length seen ≡ 16) × (length sessions ≡ 48) × (length commits ≡ 192) × (length links ≡ 160)
-
 abbrev Inv-loop : tie.InvT-loop
 Inv-loop file n clients records versions₀ keys₀ views₀ seen₀ sessions₀ commits₀ links₀ verdicts₀ values₀ fresh₀ at₀ number₀ made₀ left₀ versions keys views seen sessions commits links verdicts values fresh at number made left =
-    (at ≤ length file) × (number + left ≡ records + 1) × Lengths versions keys views seen sessions commits links verdicts values fresh
+    (at ≤ length file) × (number + left ≡ records + 1) × Room versions keys views seen sessions commits links
+    × (ValuesRoom values × FreshRoom fresh × VerdictsRoom verdicts)
     × ((rs : List Entry) → Starts file n clients records rs versions₀ keys₀ views₀ seen₀ sessions₀ commits₀ links₀ verdicts₀ values₀
     → Stands file n clients records rs left at number made versions keys views seen sessions commits links verdicts values)
 
@@ -53,26 +51,49 @@ says : (c : tie.After-known-at Inv-loop μ-loop) → let a = began c .args in
     RecordSays (now (a .file)) (c .before .before .loop .at) (a .n) (a .clients) (Whole (c .known-at .result .record) (c .known-at .result .next))
 says c =
     let (rs, starts) = began c .pre .1 .1 .1 in
-    c .known-at .ensures _ (in-form (c .before .before .loop .inv .3 rs starts) (some-left c))
+    c .known-at .ensures _ (in-form (c .before .before .loop .inv .4 rs starts) (some-left c))
 
--- its call keeps the lengths of the arrays
+-- its call keeps the room of the arrays
 kept : (c : tie.After-slice-known20 Inv-loop μ-loop) → let o = called c .one-record .last .1 .1 .1 .1 in
-    Lengths (o .0) (o .1 .0) (o .1 .1 .0) (o .1 .1 .1 .0) (o .1 .1 .1 .1 .0) (o .1 .1 .1 .1 .1 .0) (o .1 .1 .1 .1 .1 .1 .0) (o .1 .1 .1 .1 .1 .1 .1 .0) (o .1 .1 .1 .1 .1 .1 .1 .1 .0) (o .1 .1 .1 .1 .1 .1 .1 .1 .1 .0)
+    Room (o .0) (o .1 .0) (o .1 .1 .0) (o .1 .1 .1 .0) (o .1 .1 .1 .1 .0) (o .1 .1 .1 .1 .1 .0) (o .1 .1 .1 .1 .1 .1 .0)
+    × (ValuesRoom (o .1 .1 .1 .1 .1 .1 .1 .1 .0) × FreshRoom (o .1 .1 .1 .1 .1 .1 .1 .1 .1 .0) × VerdictsRoom (o .1 .1 .1 .1 .1 .1 .1 .0))
 kept c =
-    let l = known (called c) .before .before .loop .inv .2 in
-    (omega (arith, c .before .before .before .before .before .verdicts .given, l .0), omega (arith, c .before .before .before .values .given, l .1), omega (arith, c .before .fresh .given, l .2), omega (arith, c .before .before .before .before .before .before .before .before .before .before .before .before .before .before .before .before .before .before .before .versions .given, l .3), omega (arith, c .before .before .before .before .before .before .before .before .before .before .before .before .before .before .before .before .before .keys .given, l .4), omega (arith, c .before .before .before .before .before .before .before .before .before .before .before .before .before .before .before .views .given, l .5), omega (arith, c .before .before .before .before .before .before .before .before .before .before .before .before .before .seen .given, l .6), omega (arith, c .before .before .before .before .before .before .before .before .before .before .before .sessions .given, l .7), omega (arith, c .before .before .before .before .before .before .before .before .before .commits .given, l .8), omega (arith, c .before .before .before .before .before .before .before .links .given, l .9))
+    let l = known (called c) .before .before .loop .inv in
+    let fresh = c .before in
+    let values = fresh .before .before in
+    let verdicts = values .before .before in
+    let links = verdicts .before .before in
+    let commits = links .before .before in
+    let sessions = commits .before .before in
+    let seen = sessions .before .before in
+    let views = seen .before .before in
+    let keys = views .before .before in
+    let versions = keys .before .before in (
+      record {
+        of-versions = versions .versions .given ∙ l .2 .of-versions;
+        of-keys = keys .keys .given ∙ l .2 .of-keys;
+        of-views = views .views .given ∙ l .2 .of-views;
+        of-seen = seen .seen .given ∙ l .2 .of-seen;
+        of-sessions = sessions .sessions .given ∙ l .2 .of-sessions;
+        of-commits = commits .commits .given ∙ l .2 .of-commits;
+        of-links = links .links .given ∙ l .2 .of-links;
+      },
+      values .values .given ∙ l .3 .0,
+      fresh .fresh .given ∙ l .3 .1,
+      verdicts .verdicts .given ∙ l .3 .2,
+    )
 
 -- ---- the needs
 
 loop-holds : tie.Need-loop-holds Inv-loop μ-loop
 loop-holds c =
     let p = c .before .before .before .before .before .before .before .before .before .before .before .pre in
-    (omega arith, omega arith, (p .1 .0 .0, p .1 .0 .1, p .1 .0 .2, p .1 .1 .0 .0, p .1 .1 .0 .1, p .1 .1 .0 .2, p .1 .1 .0 .3, p .1 .1 .0 .4, p .1 .1 .0 .5, p .1 .1 .0 .6), λ rs s. run-starts s)
+    (omega arith, omega arith, p .1 .1 .0, p .1 .0, λ rs s. run-starts s)
 
 known-at-requires : tie.Need-known-at-requires Inv-loop μ-loop
 known-at-requires c κs =
     let (rs, starts) = c .before .before .before .before .before .before .before .before .before .before .before .before .before .pre .1 .1 .1 in
-    (_, in-form (c .before .loop .inv .3 rs starts) (omega arith))
+    (_, in-form (c .before .loop .inv .4 rs starts) (omega arith))
 
 one-record-requires : tie.Need-one-record-requires Inv-loop μ-loop
 one-record-requires c κs =
@@ -80,7 +101,7 @@ one-record-requires c κs =
     let p = began k .pre in
     let l = k .before .before .loop .inv in
     let (rs, starts) = p .1 .1 .1 in
-    ((p .0 .0, p .0 .1, readable (l .3 rs starts) (bytes k) (p .0 .2) (some-left k) _ _ (says k), l .2 .0, l .2 .1, l .2 .2), (l .2 .3, l .2 .4, l .2 .5, l .2 .6, l .2 .7, l .2 .8, l .2 .9))
+    ((p .0 .0, p .0 .1, readable (l .4 rs starts) (bytes k) (p .0 .2) (some-left k) _ _ (says k)), (l .3, l .2))
 
 enum-known-outcome : tie.Need-enum-known-outcome Inv-loop μ-loop
 enum-known-outcome c = search needs
@@ -129,7 +150,7 @@ returns : tie.Need-returns Inv-loop μ-loop
 returns c =
     let k = known (called (c .before .before .before)) in
     λ rs s.
-    run-stops (k .before .before .loop .inv .3 rs s) (bytes k) (began k .pre .0 .2) (some-left k) _ _ (says k) _ _ _ _ _ _ _ _ _ _
+    run-stops (k .before .before .loop .inv .4 rs s) (bytes k) (began k .pre .0 .2) (some-left k) _ _ (says k) _ _ _ _ _ _ _ _ _ _
     (called (c .before .before .before) .one-record .ensures) (c .before .outcome .given .1)
 
 enum-told : tie.Need-enum-told Inv-loop μ-loop
@@ -139,7 +160,7 @@ commits-with-requires : tie.Need-commits-with-requires Inv-loop μ-loop
 commits-with-requires c κs =
     let k = known (called (c .before .before)) in
     let (rs, starts) = began k .pre .1 .1 .1 in
-    few-made (k .before .before .loop .inv .3 rs starts)
+    few-made (k .before .before .loop .inv .4 rs starts)
 
 add-number : tie.Need-add-number Inv-loop μ-loop
 add-number c =
@@ -158,11 +179,12 @@ loop-again c =
     let l = k .before .before .loop .inv in
     let p = began k .pre in
     let (rs, starts) = p .1 .1 .1 in (
-      next-within (l .3 rs starts) (bytes k) (p .0 .2) (some-left k) _ _ (says k),
+      next-within (l .4 rs starts) (bytes k) (p .0 .2) (some-left k) _ _ (says k),
       omega arith,
-      kept (c .before .before .before),
+      kept (c .before .before .before) .0,
+      kept (c .before .before .before) .1,
       λ rs s.
-          run-goes (l .3 rs s) (bytes k) (p .0 .2) (some-left k) _ _ (says k) _ _ _ _ _ _ _ _ _ _
+          run-goes (l .4 rs s) (bytes k) (p .0 .2) (some-left k) _ _ (says k) _ _ _ _ _ _ _ _ _ _
           (called (c .before .before .before) .one-record .ensures) (c .before .enum-told .given .1) (c .commits-with .ensures _ _),
     )
 
@@ -198,7 +220,7 @@ same-length-20 c = search needs
 
 returns-2 : tie.Need-returns-2 Inv-loop μ-loop
 returns-2 c =
-    λ rs s. run-ends (c .before .loop .inv .3 rs s) (omega arith)
+    λ rs s. run-ends (c .before .loop .inv .4 rs s) (omega arith)
 
 pub run-all-spec : {M : Type 1} → statement M
 run-all-spec =

@@ -1,12 +1,11 @@
 -- `taking::take_records` meets its contract: the arrays of the opening store are those on which the records start, and what the run comes to is
 -- what the definitions accept. Assumes nothing.
-use Prim.Native.Nat.{ℕ}
-use mathlib.Core.Path.{refl, ap, _∙_}
+use mathlib.Core.Path.{refl}
 use native.Mathlib.Omega.{arith}
-use lib.ListN.{length, replicate, length-replicate}
+use lib.ListN.{replicate}
 use denote.Ref.{now}
 use Rattle.endian.specs.Endian.{Bytes}
-use Rattle.state.specs.Places.{versionsLength, keysLength, viewsLength, seenLength, sessionsLength, commitsLength, linksLength, valuesLength}
+use Rattle.state.specs.Places.{valuesLength}
 use Rattle.verdicts.specs.Verdicts.{verdictsLength}
 use Rattle.run.specs.Ran.{Starts}
 use Rattle.taking.specs.Taking.{TakingSays}
@@ -18,11 +17,11 @@ use Rattle.taking.proofs.take_records.Tie as tie
 
 -- ---- the ways back: from the call of `run_all` to the start and to the opening store, and from where each answer is given to that call
 
-abbrev begun : tie.After-fresh → tie.Start
-begun c = c .before .before .before .before .before .before .before .before .before .before .before .before .before .before .before .before .before .before .before
-
 abbrev opened : tie.After-fresh → tie.After-opening
 opened c = c .before .before .before .before .before .before .before .before .before .before .before .before .before .before
+
+abbrev begun : tie.After-fresh → tie.Start
+begun c = opened c .before .before .before .before .before
 
 abbrev refused : tie.After-known-told → tie.After-run-all
 refused c = c .before .before .before .before .before .before .before .before .before .before .before .before .before .before .before .before
@@ -32,7 +31,7 @@ done c = c .before .before .before .before .before .before .before .before .befo
 
 -- the bytes of the file are bytes
 bytes : (c : tie.After-fresh) → Bytes (now (begun c .args .file))
-bytes c i = c .before .before .before .before .before .before .before .before .before .before .before .before .before .before .before .before .before .before .shared-slice-known .given i .fits
+bytes c i = opened c .before .before .before .before .shared-slice-known .given i .fits
 
 -- the records start on these arrays
 started : (c : tie.After-fresh)
@@ -70,24 +69,24 @@ slice-aggregate-run-all-7 c = search needs
 run-all-requires : tie.Need-run-all-requires
 run-all-requires c κs =
     let w = begun c .pre .0 .0 in
-    let d = begun c .pre .1 in
-    let o = opened c .opening .ensures in (
+    let k = started c .keeps in (
       omega (arith, w .some-key, w .few-keys, w .few-clients, w .few-records, begun c .pre .0 .1, begun c .pre .0 .2),
       (
-        omega arith,
         (
-          omega (
-            arith,
-            ap length (d .in-versions) ∙ length-replicate {A = ℕ} versionsLength 0,
-            ap length (d .in-keys) ∙ length-replicate {A = ℕ} keysLength 1,
-            ap length (d .in-commits) ∙ length-replicate {A = ℕ} commitsLength 0,
-            ap length (o .1 .1 .0 .0) ∙ length-replicate {A = ℕ} viewsLength 1,
-            ap length (o .1 .1 .0 .1) ∙ length-replicate {A = ℕ} seenLength 1,
-            ap length (o .1 .1 .1 .0) ∙ length-replicate {A = ℕ} sessionsLength 0,
-            ap length (o .1 .1 .1 .2) ∙ length-replicate {A = ℕ} linksLength 0,
-          ),
-          (w .entries, started c),
+          record {
+            of-versions = k .in-versions .room;
+            of-keys = k .in-keys .room;
+            of-views = k .in-views .room;
+            of-seen = k .in-views .seen-room;
+            of-sessions = k .in-sessions .room;
+            of-commits = k .in-commits .room;
+            of-links = k .in-links .room;
+          },
+          omega arith,
+          omega arith,
+          omega arith,
         ),
+        (w .entries, started c),
       ),
     )
 

@@ -36,10 +36,9 @@ same-length-2 : tie.Need-same-length-2
 same-length-2 c = search needs
 
 returns : tie.Need-returns
-returns c = (
-  λ g e values versions keys i h adds. own-not-refused g e values versions keys _ _ _ _ _ _ h adds i,
-  λ g e values versions keys h adds number t.
-      own-kept g e values versions keys _ _ _ _ _ _ h adds (omega arith) (omega arith) _ _ number
+returns c = λ g e values versions keys i h adds. (
+  own-not-refused h adds i,
+  λ t. own-kept h adds (omega arith) (omega arith) _
       (c .before .own-number .ensures e values (h .operations) (λ k w. omega (arith, h .made .fits .write-keys k w, h .keys-are))) (c .before .before .before .before .before .keep .ensures) (c .union .ensures),
 )
 

@@ -36,11 +36,11 @@ returns c =
     let copied = c .before .before .before .before .before .before .before .before .masks-into in
     let long : length (sorted .last .1 .1 .1 .0) ≡ 2 * maxKeys = omega arith in
     let wide : length (copied .last .1 .1 .0) ≡ maxKeys = omega arith in
-    λ g clients i keys seen commits links r small.
+    λ g clients keys seen commits links r small.
     let k = commitIn file (a .at) (a .n) in
     let o = operations-read (k .operations) (a .n) (r .fits .rising) (sorted .result) (a .values .now) (sorted .last .1 .1 .1 .0) (sorted .ensures .0) (sorted .ensures .1) k refl long small in
     record {
-      answer = c .early .ensures (g .store) (viewBefore g k) k i
+      answer = c .early .ensures (g .store) (viewBefore g k) k
           (early-given g k clients (a .n) (a .versions .now) keys (a .views .now) seen (a .sessions .now) commits links (sorted .last .1 .1 .1 .0) (sorted .result) r o);
       operations = o;
       masks = masks-read file (a .at .masks) (a .n) (copied .last .1 .1 .0) wide (copied .ensures .0);

@@ -1,12 +1,16 @@
 -- `commits::record::commit_to` meets its contract. Assumes nothing.
-use mathlib.Core.Path.{refl, sym, ap, _∙_}
+use mathlib.Core.Path.{refl}
 use native.Mathlib.Omega.{arith}
-use Rattle.shifts.specs.Outcomes.{outcomeOf}
 use Rattle.shifts.proofs.Refused.{not-taken}
-use Rattle.commits.proofs.Turns.{refused-early, taken-early, answered-late}
+use Rattle.commits.specs.Records.{commitIn}
+use Rattle.commits.proofs.Turns.{refused-early, taken-early}
 use borrow.Author.Needs.{needs}
 use Rattle.commits.proofs.record.commit_to.Statement.{statement}
 use Rattle.commits.proofs.record.commit_to.Tie as tie
+
+-- where the function begins, from where the commit was read and first tested
+abbrev entry : tie.After-begin → tie.Start
+entry c = c .before .before .before .before .before .before .before .before .before .before .before .before .before .before .before .before .before
 
 begin-requires : tie.Need-begin-requires
 begin-requires c κs = search needs
@@ -31,21 +35,22 @@ same-length-5 c = search needs
 
 returns : tie.Need-returns
 returns c =
-    let a = c .before .before .before .before .before .before .before .before .before .before .before .before .before .before .before .before .before .before .before .before .before .before .before .before .args in
-    let b = c .before .before .before .before .before .before .before .begin in
+    let begun = c .before .before .before .before .before .before .before in
+    let a = entry begun .args in
     λ g clients fs r number small verdicts.
-    let h = b .ensures g clients (a .number) (a .keys .now) (a .seen .now) (a .commits .now) (a .links .now) r small in (
-      refused-early (a .number) g _ _ (sym (ap (outcomeOf (a .number)) (c .before .first .given .1)) ∙ h .answer),
-      h .operations .value-fits,
-      λ taken. not-taken _ refl taken,
-    )
+    let h = begun .begin .ensures g clients _ _ _ _ r small in
+    record {
+      answer = refused-early (a .number) g (commitIn (a .file .now) (a .at) (a .n)) _ _ (c .before .first .given .1) (h .answer);
+      small = h .operations .value-fits;
+      kept = not-taken _ refl;
+    }
 
 enum-told : tie.Need-enum-told
 enum-told c = search needs
 
 complete-requires : tie.Need-complete-requires
 complete-requires c κs =
-    let p = c .before .before .before .before .before .before .before .before .before .before .before .before .before .before .before .before .before .before .before .before .before .before .before .before .before .before .before .before .before .before .before .before .before .pre in
+    let p = entry (c .before .before .before .before .before .before .before .before .before .before .before .before .before .before .before .before) .pre in
     ((p .0 .0, p .0 .1, p .0 .3, p .0 .2, omega arith, omega arith, p .1 .0 .2), p .1 .1)
 
 same-length-6 : tie.Need-same-length-6
@@ -80,16 +85,23 @@ same-length-15 c = search needs
 
 returns-2 : tie.Need-returns-2
 returns-2 c =
-    let a = c .before .before .before .before .before .before .before .before .before .before .before .before .before .before .before .before .before .before .before .before .before .before .before .before .before .before .before .before .before .before .before .before .before .before .before .before .before .before .before .before .before .before .before .before .before .before .before .before .before .before .args in
-    let b = c .before .before .before .before .before .before .before .before .before .before .before .before .before .before .before .before .before .before .before .before .before .before .before .before .before .before .before .before .before .before .before .before .before .begin in
-    let z = c .before .before .before .before .before .before .before .before .before .before .before .before .before .before .before .before .complete in
+    let completed = c .before .before .before .before .before .before .before .before .before .before .before .before .before .before .before .before in
+    let told = completed .before .before .before .before .before .before .before .before .before .before .before in
+    let begun = told .before .before .before .before .before .before in
+    let a = entry begun .args in
     λ g clients fs r number small verdicts.
-    let h = b .ensures g clients (a .number) (a .keys .now) (a .seen .now) (a .commits .now) (a .links .now) r small in
-    let n = taken-early (a .number) g _ _ (c .before .before .before .before .before .before .before .before .before .before .before .before .before .before .before .before .before .before .before .before .before .before .before .before .before .before .before .enum-told .given .1) (h .answer) in (
-      answered-late (a .number) g _ n _ (z .ensures .0 g _ clients (a .number) r refl refl number (h .operations) (h .masks) n),
-      h .operations .value-fits,
-      λ taken. z .ensures .1 g _ clients fs r refl refl number (h .operations) (h .masks) n verdicts taken,
-    )
+    let h = begun .begin .ensures g clients _ _ _ _ r small in
+    let k = commitIn (a .file .now) (a .at) (a .n) in
+    completed .complete .ensures g k clients fs (record {
+      recorded = r;
+      client-is = refl;
+      session-is = refl;
+      number-is = number;
+      operations = h .operations;
+      masks = h .masks;
+      not-refused = taken-early (a .number) g k _ (told .enum-told .given .1) (h .answer);
+    })
+    verdicts
 
 pub commit-to-spec : {M : Type 1} → statement M
 commit-to-spec =

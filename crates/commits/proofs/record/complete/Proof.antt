@@ -2,9 +2,30 @@
 use native.Mathlib.Omega.{arith}
 use Rattle.store.specs.Update.{viewBefore}
 use Rattle.commits.proofs.Completed.{plain-is, before-commit, commit-given, late-given, kept-after, noted}
+use Rattle.commits.proofs.Turns.{answered-late}
 use borrow.Author.Needs.{needs}
 use Rattle.commits.proofs.record.complete.Statement.{statement}
 use Rattle.commits.proofs.record.complete.Tie as tie
+
+-- ---- places on the way
+
+-- where the function begins, from where the view after was compared with the view before
+abbrev entry : tie.After-adds-own → tie.Start
+entry c = c .before .before .before .before .before .before .before .before .before .before .before .before .before
+
+-- where it was, from where the levels have judged
+abbrev tested : tie.After-judge → tie.After-adds-own
+tested c = c .before .before .before .before .before .before .before .before
+
+-- where they have, from where the commit is made
+abbrev judged : tie.After-make → tie.After-judge
+judged c = c .before .before .before .before .before .before .before .before .before
+
+-- where it is, from where its view after was tested
+abbrev made : tie.After-late → tie.After-make
+made c = c .before .before .before .before .before .before .before .before .before .before .before .before .before .before .before
+
+-- ---- what is needed
 
 mul-adds-own : tie.Need-mul-adds-own
 mul-adds-own c = search needs
@@ -26,13 +47,14 @@ judge-requires c κs = search needs
 
 make-requires : tie.Need-make-requires
 make-requires c κs =
-    let p = c .before .before .before .before .before .before .before .before .before .before .before .before .before .before .before .before .before .before .before .before .before .before .before .before .before .before .before .before .before .pre in
-    ((p .0 .1, p .0 .2, p .0 .3, p .1 .0, p .1 .1, p .1 .2), (p .1 .4, p .1 .5, p .1 .6, p .0 .4))
+    let p = entry (c .before .before .before .before .before .before .before .before .before .before .before .before .before .before .before .before) .pre in
+    let room = p .1 in
+    ((p .0 .1, p .0 .2, p .0 .3, room .of-versions, room .of-keys, room .of-views), (room .of-sessions, room .of-commits, room .of-links, p .0 .4))
 
 late-requires : tie.Need-late-requires
 late-requires c κs =
-    let p = c .before .before .before .before .before .before .before .before .before .before .before .before .before .before .before .before .before .before .before .before .before .before .before .before .before .before .before .before .before .before .before .before .before .before .before .before .before .before .before .before .before .before .before .before .pre in
-    (p .0 .0, p .0 .1, p .0 .2, p .0 .3, omega arith, omega arith, p .0 .5, p .1 .2, p .1 .3)
+    let p = entry (tested (judged (c .before .before .before .before .before .before .before .before .before .before .before .before .before .before))) .pre in
+    (p .0 .0, p .0 .1, p .0 .2, p .0 .3, omega arith, omega arith, p .0 .5, p .1 .of-views, p .1 .of-seen)
 
 same-length : tie.Need-same-length
 same-length c = search needs
@@ -60,35 +82,24 @@ same-length-8 c = search needs
 
 returns : tie.Need-returns
 returns c =
-    let b = c .before .before .before .before .before .before .before .before .before .before .before .before .before .before .before .before .before .before .before .before .before .before .before .before .before .before .before .before .before .before .before .before .before .before .before .before .before .before .before .before .before .before .before .before .before .before .before .before .before in
-    let a = b .args in
-    let m = c .before .before .before .before .before .before .before .before .before .before .before .before .before .before .before .before .before .before .before .make in
-    let z = c .before .before .before .before .late in
-    let p = c .before .before .before .before .before .before .before .before .before .before .before .before .before .before .before .before .before .before .before .before .before .before .before .before .before .before .before .before .before .before .before .before .before .before .before .before .adds-own in (
-      λ g k clients i r own session number o f early.
-          let made = m .ensures (g .store) (viewBefore g k) k
-          (commit-given g k clients (a .n) (a .versions .now) (a .keys .now) (a .views .now) (a .seen .now) (a .sessions .now) (a .commits .now) (a .links .now) (a .values .now) (a .fresh .now) (a .client) (a .ranks) r own o f i early)
-          number session (r .keeps .in-commits) (r .keeps .in-links) in
-          z .ensures .0 g k (a .values .now) i
-          (late-given g k clients (a .n) (a .versions .now) (a .keys .now) (a .views .now) (a .seen .now) (a .sessions .now) (a .commits .now) (a .links .now) (a .values .now) (a .fresh .now) (a .client) (a .ranks) r own o f i early
-          (m .last .0) (m .last .1 .0) (m .last .1 .1 .1 .0) (m .last .1 .1 .1 .1 .0) (m .last .1 .1 .1 .1 .1 .0) made)
-          number (plain-is g k clients (a .n) (a .versions .now) (a .keys .now) (a .views .now) (a .seen .now) (a .sessions .now) (a .commits .now) (a .links .now) (a .values .now) (a .fresh .now) (a .client) (a .ranks) r own o f i early (p .result) (p .ensures)),
-      λ g k clients fs r own session number o f early verdicts taken.
-          let made = m .ensures (g .store) (viewBefore g k) k
-          (commit-given g k clients (a .n) (a .versions .now) (a .keys .now) (a .views .now) (a .seen .now) (a .sessions .now) (a .commits .now) (a .links .now) (a .values .now) (a .fresh .now) (a .client) (a .ranks) r own o f (a .number) early)
-          number session (r .keeps .in-commits) (r .keeps .in-links) in
-          let adds = plain-is g k clients (a .n) (a .versions .now) (a .keys .now) (a .views .now) (a .seen .now) (a .sessions .now) (a .commits .now) (a .links .now) (a .values .now) (a .fresh .now) (a .client) (a .ranks) r own o f (a .number) early (p .result) (p .ensures) in
-          let given = late-given g k clients (a .n) (a .versions .now) (a .keys .now) (a .views .now) (a .seen .now) (a .sessions .now) (a .commits .now) (a .links .now) (a .values .now) (a .fresh .now) (a .client) (a .ranks) r own o f (a .number) early
-          (m .last .0) (m .last .1 .0) (m .last .1 .1 .1 .0) (m .last .1 .1 .1 .1 .0) (m .last .1 .1 .1 .1 .1 .0) made in (
-            kept-after g k clients (a .n) (a .versions .now) (a .keys .now) (a .views .now) (a .seen .now) (a .sessions .now) (a .commits .now) (a .links .now) (a .values .now) (a .fresh .now) (a .client) (a .ranks) r own o f (a .number) early
-                (m .last .0) (m .last .1 .0) (m .last .1 .1 .1 .0) (m .last .1 .1 .1 .1 .0) (m .last .1 .1 .1 .1 .1 .0) made (z .last .1 .1 .1 .0) (z .last .1 .1 .1 .1 .0)
-                (z .ensures .1 g k (a .values .now) given number adds taken),
-            noted g k (a .number) fs (c .before .before .before .before .before .before .before .before .before .before .before .before .before .before .before .before .before .before .before .before .before .before .before .before .before .before .before .before .judge .last .0)
-                (c .before .before .before .before .before .before .before .before .before .before .before .before .before .before .before .before .before .before .before .before .before .before .before .before .before .before .before .before .judge .ensures (g .store) (viewBefore g k) k (a .values .now) fs
-                (before-commit g k clients (a .n) (a .versions .now) (a .keys .now) (a .views .now) (a .seen .now) (a .sessions .now) (a .commits .now) (a .links .now) (a .values .now) (a .fresh .now) (a .client) (a .ranks) r own o f (a .number) early adds)
-                verdicts),
-          ),
-    )
+    let viewed = c .before .before .before .before in
+    let m = made viewed in
+    let j = judged m in
+    let p = tested j in
+    let a = entry p .args in
+    λ g k clients fs ready verdicts.
+    let keeps = ready .recorded .keeps in
+    let kept = m .make .ensures (g .store) (viewBefore g k) k (commit-given ready) (ready .number-is) (ready .session-is) (keeps .in-commits) (keeps .in-links) in
+    let adds = plain-is ready (p .adds-own .result) (p .adds-own .ensures) in
+    let says = viewed .late .ensures g k (a .values .now) (late-given ready kept) adds in
+    record {
+      answer = answered-late _ g k (ready .not-refused) _ (says .0);
+      small = ready .operations .value-fits;
+      kept = λ taken. (
+        kept-after ready kept (says .1 taken),
+        noted g k (a .number) fs (j .judge .last .0) (j .judge .ensures (g .store) (viewBefore g k) k (a .values .now) fs (before-commit ready {plain = p .adds-own .result} adds) verdicts),
+      );
+    }
 
 pub complete-spec : {M : Type 1} → statement M
 complete-spec =

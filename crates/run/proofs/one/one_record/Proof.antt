@@ -22,7 +22,8 @@ shift-to-requires c κs =
     let shift = c .before .before .before .before .before .before in
     let p = before-shift shift .pre in
     let (below, masks) = subst (Readable _ _ _) (shift .r .given .1) (p .0 .2) in
-    ((p .0 .0, p .0 .1, below, masks), (p .1 .0, p .1 .1, p .1 .2, p .1 .3, p .0 .5))
+    let room = p .1 .1 in
+    ((p .0 .0, p .0 .1, below, masks), (room .of-versions, room .of-keys, room .of-views, room .of-seen, p .1 .0 .1))
 
 enum-known-r-2 : tie.Need-enum-known-r-2
 enum-known-r-2 c = search needs
@@ -38,7 +39,7 @@ commit-to-requires c κs =
     let commit = c .before .before .before .before .before .before .before .before .before .before .before in
     let p = before-commit commit .pre in
     let (below, masks, operations, fit, room) = subst (Readable _ _ _) (commit .r2 .given .1) (p .0 .2) in
-    ((p .0 .0, p .0 .1, omega arith, below, masks, operations, fit), ((p .0 .4, p .0 .5, p .0 .3), p .1))
+    ((p .0 .0, p .0 .1, omega arith, below, masks, operations, fit), p .1)
 
 same-length : tie.Need-same-length
 same-length c = search needs
