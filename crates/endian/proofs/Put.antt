@@ -1,12 +1,14 @@
 -- Laws of bytes put into a list in the place of others, over their number. Assumes nothing.
 use Prim.Native.Nat.{ℕ, _+_, _-_, _/_, _%_, _^_, _≤_}
-use mathlib.Core.Path.{_≡_, sym, ap, _∙_, subst}
+use mathlib.Core.Path.{_≡_, refl, sym, ap, _∙_, subst}
 use mathlib.Core.List.{List, [], _++_, append-assoc, append-nil}
 use native.Mathlib.Omega.{arith}
 use native.Mathlib.Nat.{le-of-eq, add-zero, zero-add, add-assoc}
+use native.Mathlib.Numerals.{add-one}
 use lib.ListN.{length, take, drop, length-append, length-drop, take-append-drop, drop-of-length-le}
 use lib.Seq.{take-all, take-at, drop-append-add, drop-drop, length-take-le}
-use Rattle.endian.specs.Endian.{leBytes, putAt}
+use borrow.Rule.Slice.PartMut.{putMid}
+use Rattle.endian.specs.Endian.{leBytes, putAt, pieces}
 use Rattle.endian.proofs.Laws.{length-leBytes, leBytes-add, leBytes-mod}
 
 -- no bytes change nothing
@@ -49,3 +51,32 @@ module _ (d : List ℕ) (at : ℕ) where
   part-back a h =
       let l : length (drop at d) ≤ length d - at = le-of-eq (length-drop at d) in
       rw (take-all (length d - at) (drop at d) l, drop-of-length-le (drop at d) l, append-nil (putAt (drop at d) 0 a)) (put-in-part a h)
+
+-- ---- one behind the other
+
+-- bytes put behind those that stand there
+pub put-next : (d : List ℕ) (at k place : ℕ) (a b : List ℕ) {present after : List ℕ}
+    → present ≡ putAt d at a → length a ≡ k → at + k ≡ place → place ≤ length d
+    → after ≡ putAt present place b → after ≡ putAt d at (a ++ b)
+put-next d at k place a b stands long e room put =
+    put ∙ ap (λ l. putAt l place b) stands ∙ ap (λ p. putAt (putAt d at a) p b) (sym e) ∙ put-then d at a b k long (omega arith)
+
+-- a turn of a loop: one piece more, behind the i pieces that stand there
+pub put-piece : (d : List ℕ) (at i w : ℕ) (f : ℕ → List ℕ) {present after piece : List ℕ}
+    → present ≡ putAt d at (pieces i f) → length (pieces i f) ≡ w → at + w ≤ length d
+    → after ≡ putAt present (at + w) piece → piece ≡ f i
+    → after ≡ putAt d at (pieces (i + 1) f)
+unfolding pieces
+put-piece d at i w f {present} stands long room put is =
+    put-next d at w (at + w) (pieces i f) (f i) stands long refl room (put ∙ ap (λ l. putAt present (at + w) l) is)
+    ∙ ap (λ j. putAt d at (pieces j f)) (sym (add-one i))
+
+-- the same where the part from the end of the pieces on was lent, and came back with the piece at its start
+pub put-lent : (d : List ℕ) (start k w at : ℕ) (f : ℕ → List ℕ) {present part : List ℕ}
+    → present ≡ putAt d start (pieces k f) → length (pieces k f) ≡ w → at ≡ start + w → at ≤ length d → at + length (f k) ≤ length present
+    → part ≡ putAt (take (length present - at) (drop at present)) 0 (f k)
+    → putMid at (length present - at) present part ≡ putAt d start (pieces (k + 1) f)
+put-lent d start k w at f {present} stands long end within room back =
+    put-piece d start k w f stands long (omega arith)
+    (ap (putMid at (length present - at) present) back ∙ part-back present at (f k) room ∙ ap (λ p. putAt present p (f k)) end)
+    refl

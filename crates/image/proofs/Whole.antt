@@ -1,46 +1,17 @@
--- Parts put one after the other: piece by piece in a loop, and the parts of the image. Assumes nothing.
-use Prim.Native.Nat.{ℕ, suc, _+_, _-_, _*_, _≤_, _<_}
+-- The parts of the image, put one after the other. Assumes nothing.
+use Prim.Native.Nat.{ℕ, suc, _+_, _*_, _≤_, _<_}
 use mathlib.Core.Path.{_≡_, refl, sym, ap, _∙_}
 use mathlib.Core.List.{List, _++_, append-assoc}
 use native.Mathlib.Omega.{arith}
-use native.Mathlib.Numerals.{add-one}
-use lib.ListN.{length, take, drop, length-append}
-use borrow.Rule.Slice.PartMut.{putMid}
+use lib.ListN.{length, length-append}
 use Rattle.endian.specs.Endian.{leBytes, putAt, pieces}
 use Rattle.endian.proofs.Laws.{length-leBytes}
-use Rattle.endian.proofs.Put.{put-then, part-back}
+use Rattle.endian.proofs.Put.{put-next}
 use Rattle.store.specs.Store.{Store}
 use Rattle.store.specs.Image.{commitBytes, keyBytes, imageBody, image}
 use Rattle.image.specs.Parts.{headBytes}
 use Rattle.image.proofs.Words.{leBytes-counts}
 use Rattle.image.proofs.Sizes.{length-commits, length-image}
-
--- bytes put behind those that stand there
-pub put-next : (d : List ℕ) (at k place : ℕ) (a b : List ℕ) {present after : List ℕ}
-    → present ≡ putAt d at a → length a ≡ k → at + k ≡ place → place ≤ length d
-    → after ≡ putAt present place b → after ≡ putAt d at (a ++ b)
-put-next d at k place a b stands long e room put =
-    put ∙ ap (λ l. putAt l place b) stands ∙ ap (λ p. putAt (putAt d at a) p b) (sym e) ∙ put-then d at a b k long (omega arith)
-
--- a turn of a loop: one piece more, behind the i pieces that stand there
-pub put-piece : (d : List ℕ) (at i w : ℕ) (f : ℕ → List ℕ) {present after piece : List ℕ}
-    → present ≡ putAt d at (pieces i f) → length (pieces i f) ≡ w → at + w ≤ length d
-    → after ≡ putAt present (at + w) piece → piece ≡ f i
-    → after ≡ putAt d at (pieces (i + 1) f)
-unfolding pieces
-put-piece d at i w f {present} stands long room put is =
-    put-next d at w (at + w) (pieces i f) (f i) stands long refl room (put ∙ ap (λ l. putAt present (at + w) l) is)
-    ∙ ap (λ j. putAt d at (pieces j f)) (sym (add-one i))
-
--- the same where the part from the end of the pieces on was lent, and came back with the piece at its start
-pub put-lent : (d : List ℕ) (start k w at : ℕ) (f : ℕ → List ℕ) {present part : List ℕ}
-    → present ≡ putAt d start (pieces k f) → length (pieces k f) ≡ w → at ≡ start + w → at ≤ length d → at + length (f k) ≤ length present
-    → part ≡ putAt (take (length present - at) (drop at present)) 0 (f k)
-    → putMid at (length present - at) present part ≡ putAt d start (pieces (k + 1) f)
-put-lent d start k w at f {present} stands long end within room back =
-    put-piece d start k w f stands long (omega arith)
-    (ap (putMid at (length present - at) present) back ∙ part-back present at (f k) room ∙ ap (λ p. putAt present p (f k)) end)
-    refl
 
 -- ---- the first 8 bytes
 

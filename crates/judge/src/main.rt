@@ -1,12 +1,17 @@
-// Judges the trace file on standard input and prints the report.
+// Judges the trace file on standard input and prints the report. Input that cannot be read is no file: it gets a line on standard error and no report.
 use libc::STDIN_FILENO;
+use libc::STDOUT_FILENO;
 use store::Store;
+use streams::Input;
 
 fn main() {
     // Room for one byte more than a file may have, so that a longer input is seen to be too long.
     let mut file = [0u8; Store::BYTES + 1];
-    // Room for the longest image.
+    let Input::Whole(n) = streams::read_whole(STDIN_FILENO, b"standard input", &mut file) else {
+        return;
+    };
     let mut image = [0u8; Store::IMAGE];
-    let n = io::read_full(STDIN_FILENO, &mut file);
-    report::print(judging::judge(&file[..n], &mut image));
+    let mut text = [0u8; report::LONGEST];
+    let length = report::write(judging::judge(&file[..n], &mut image), &mut text);
+    streams::write_whole(STDOUT_FILENO, b"standard output", &text[..length]);
 }

@@ -1,99 +1,182 @@
-// The report of a trace file, written to standard output. Each line ends with one line feed.
+// The report of an answer as text, written into a lent buffer. The lines stand in specs/Report.antt, and how long they can be in specs/Longest.antt.
 use judging::Answer;
-use libc::STDOUT_FILENO;
 use state::Key;
 use state::Refusal;
 use state::VersionNumber;
 use verdicts::told::Verdict;
 use verdicts::told::Verdicts;
+ghost use mathlib.Core.Path.{_≡_};
+ghost use mathlib.Core.List.{[], _∷_, _++_};
+ghost use Prim.Native.Nat.{_+_, _*_, _≤_, _<_};
+ghost use lib.ListN.{length};
+ghost use Rattle.endian.specs.Endian.{putAt};
+ghost use Rattle.text.specs.Ascii.{space};
+ghost use Rattle.text.specs.Lines.{line};
+ghost use Rattle.text.specs.Put.{Put};
+ghost use Rattle.state.specs.Answers.{refusalOf};
+ghost use Rattle.levels.specs.Level.{levels, MR, MW, RYW, WFR, CC, UA, PSI, CP, SI, SER};
+ghost use Rattle.verdicts.specs.Told.{Told, verdictOf, verdictsOf};
+ghost use Rattle.judging.specs.Answers.{answerOf};
+ghost use Rattle.report.specs.Report.{refusalLine, countsLine, failurePieces, verdictPieces, verdictLine, verdictLines, reportText};
+ghost use Rattle.report.specs.Longest.{longestRefusal, longestCounts, longestVerdict, longestReport};
 
-// What the answer for a file is printed as: eleven lines where it was judged, one where it was refused.
-pub fn print(a: Answer) {
-    match a {
-        Answer::Refused(refusal) => print_refusal(refusal),
-        Answer::Judged {
-            verdicts,
-            records,
-            commits,
-            image_length,
-        } => {
-            print_counts(records, commits);
-            print_verdicts(verdicts);
-        }
-    }
-}
+// Every report has room in a buffer of so many bytes.
+pub const LONGEST: usize = 1272;
 
 // `refused 1 record 0 key 0 version 0`
-fn print_refusal(r: Refusal) {
-    print_number(b"refused ", r.code);
-    print_number(b" record ", r.record);
-    let key = r.key;
-    let version = r.version;
-    print_place(key, version);
-    print_text(b"\n");
+fn put_refusal(out: &mut [u8], at: usize, refusal: Refusal) -> usize
+    requires { ⌜ at + longestRefusal ≤ length (now out) ⌝ }
+    ensures { λ r. ⌜ Put (now (out .entry)) at (refusalLine (refusalOf refusal)) (now (out .exit)) r ⌝ }
+    ensures { λ r. ⌜ r ≤ at + longestRefusal ⌝ }
+{
+    let key = refusal.key;
+    let version = refusal.version;
+    let coded = text::put_field(out, at, b"refused ", refusal.code as u64);
+    let named = text::put_field(out, coded, b" record ", refusal.record as u64);
+    let keyed = text::put_field(out, named, b" key ", key.0 as u64);
+    let whole = text::put_field(out, keyed, b" version ", version.0 as u64);
+    text::put_bytes(out, whole, b"\n")
 }
 
 // `records 2 commits 2`
-fn print_counts(records: usize, commits: usize) {
-    print_number(b"records ", records);
-    print_number(b" commits ", commits);
-    print_text(b"\n");
+fn put_counts(out: &mut [u8], at: usize, records: usize, commits: usize) -> usize
+    requires { ⌜ at + longestCounts ≤ length (now out) ⌝ }
+    ensures { λ r. ⌜ Put (now (out .entry)) at (countsLine records commits) (now (out .exit)) r ⌝ }
+    ensures { λ r. ⌜ r ≤ at + longestCounts ⌝ }
+{
+    let counted = text::put_field(out, at, b"records ", records as u64);
+    let whole = text::put_field(out, counted, b" commits ", commits as u64);
+    text::put_bytes(out, whole, b"\n")
 }
 
-// The ten levels in report order.
-fn print_verdicts(v: Verdicts) {
-    let mr = v.mr;
-    print_verdict(b"MR", mr);
-    let mw = v.mw;
-    print_verdict(b"MW", mw);
-    let ryw = v.ryw;
-    print_verdict(b"RYW", ryw);
-    let wfr = v.wfr;
-    print_verdict(b"WFR", wfr);
-    let cc = v.cc;
-    print_verdict(b"CC", cc);
-    let ua = v.ua;
-    print_verdict(b"UA", ua);
-    let psi = v.psi;
-    print_verdict(b"PSI", psi);
-    let cp = v.cp;
-    print_verdict(b"CP", cp);
-    let si = v.si;
-    print_verdict(b"SI", si);
-    let ser = v.ser;
-    print_verdict(b"SER", ser);
+// ` refused record 2 clause 5 key 0 version 1`, behind the name of a level
+fn put_failure(
+    out: &mut [u8],
+    at: usize,
+    record: usize,
+    clause: usize,
+    key: Key,
+    version: VersionNumber,
+) -> usize
+    requires { ⌜ at + longestVerdict ≤ length (now out) ⌝ }
+    ensures { λ r. ⌜ Put (now (out .entry)) at (space ∷ line (failurePieces «record» clause (key .0) (version .0))) (now (out .exit)) r ⌝ }
+    ensures { λ r. ⌜ r ≤ at + longestVerdict ⌝ }
+{
+    let named = text::put_field(out, at, b" refused record ", record as u64);
+    let judged = text::put_field(out, named, b" clause ", clause as u64);
+    let keyed = text::put_field(out, judged, b" key ", key.0 as u64);
+    let whole = text::put_field(out, keyed, b" version ", version.0 as u64);
+    text::put_bytes(out, whole, b"\n")
 }
 
-// `MR accepted`, or `UA refused record 2 clause 5 key 0 version 1`
-fn print_verdict(level: &[u8], v: Verdict) {
-    print_text(level);
+// The verdict of the level of that name.
+fn put_verdict(out: &mut [u8], at: usize, name: &[u8], v: Verdict) -> usize
+    requires { ⌜ at + (length (now name) + longestVerdict) ≤ length (now out) ⌝ }
+    ensures { λ r. ⌜ Put (now (out .entry)) at (now (name .entry) ++ (space ∷ line (verdictPieces (verdictOf v)))) (now (out .exit)) r ⌝ }
+    ensures { λ r. ⌜ r ≤ at + (length (now (name .entry)) + longestVerdict) ⌝ }
+{
+    let named = text::put_bytes(out, at, name);
     match v {
-        Verdict::Accepted => print_text(b" accepted\n"),
+        Verdict::Accepted => text::put_bytes(out, named, b" accepted\n"),
         Verdict::Refused {
             record,
             clause,
             key,
             version,
-        } => {
-            print_number(b" refused record ", record);
-            print_number(b" clause ", clause);
-            print_place(key, version);
-            print_text(b"\n");
-        }
+        } => put_failure(out, named, record, clause, key, version),
     }
 }
 
-// ` key 0 version 1`
-fn print_place(key: Key, version: VersionNumber) {
-    print_number(b" key ", key.0);
-    print_number(b" version ", version.0);
+// The verdicts of the first five levels in report order.
+fn put_first(
+    out: &mut [u8],
+    at: usize,
+    mr: Verdict,
+    mw: Verdict,
+    ryw: Verdict,
+    wfr: Verdict,
+    cc: Verdict,
+) -> usize
+    requires { ⌜ at + (12 + 5 * longestVerdict) ≤ length (now out) ⌝ }
+    ensures { λ r. ⌜
+        Put (now (out .entry)) at
+        (verdictLines (MR ∷ MW ∷ RYW ∷ WFR ∷ CC ∷ []) (verdictOf mr ∷ verdictOf mw ∷ verdictOf ryw ∷ verdictOf wfr ∷ verdictOf cc ∷ []))
+        (now (out .exit)) r
+        ⌝ }
+    ensures { λ r. ⌜ r ≤ at + (12 + 5 * longestVerdict) ⌝ }
+{
+    let a = put_verdict(out, at, b"MR", mr);
+    let b = put_verdict(out, a, b"MW", mw);
+    let c = put_verdict(out, b, b"RYW", ryw);
+    let d = put_verdict(out, c, b"WFR", wfr);
+    put_verdict(out, d, b"CC", cc)
 }
 
-fn print_number(label: &[u8], n: usize) {
-    print_text(label);
-    io::print_decimal(STDOUT_FILENO, n as u64);
+// And of the last five.
+fn put_last(
+    out: &mut [u8],
+    at: usize,
+    ua: Verdict,
+    psi: Verdict,
+    cp: Verdict,
+    si: Verdict,
+    ser: Verdict,
+) -> usize
+    requires { ⌜ at + (12 + 5 * longestVerdict) ≤ length (now out) ⌝ }
+    ensures { λ r. ⌜
+        Put (now (out .entry)) at
+        (verdictLines (UA ∷ PSI ∷ CP ∷ SI ∷ SER ∷ []) (verdictOf ua ∷ verdictOf psi ∷ verdictOf cp ∷ verdictOf si ∷ verdictOf ser ∷ []))
+        (now (out .exit)) r
+        ⌝ }
+    ensures { λ r. ⌜ r ≤ at + (12 + 5 * longestVerdict) ⌝ }
+{
+    let a = put_verdict(out, at, b"UA", ua);
+    let b = put_verdict(out, a, b"PSI", psi);
+    let c = put_verdict(out, b, b"CP", cp);
+    let d = put_verdict(out, c, b"SI", si);
+    put_verdict(out, d, b"SER", ser)
 }
 
-fn print_text(text: &[u8]) {
-    io::write_all(STDOUT_FILENO, text);
+// What was judged: the counts, and a line for each level.
+fn put_judged(out: &mut [u8], records: usize, commits: usize, v: Verdicts) -> usize
+    requires { ⌜ longestReport ≤ length (now out) ⌝ }
+    ensures { λ r. ⌜ Put (now (out .entry)) 0 (countsLine records commits ++ verdictLines levels (verdictsOf v)) (now (out .exit)) r ⌝ }
+    ensures { λ r. ⌜ r ≤ longestReport ⌝ }
+{
+    let counted = put_counts(out, 0, records, commits);
+    let mr = v.mr;
+    let mw = v.mw;
+    let ryw = v.ryw;
+    let wfr = v.wfr;
+    let cc = v.cc;
+    let half = put_first(out, counted, mr, mw, ryw, wfr, cc);
+    let ua = v.ua;
+    let psi = v.psi;
+    let cp = v.cp;
+    let si = v.si;
+    let ser = v.ser;
+    put_last(out, half, ua, psi, cp, si, ser)
+}
+
+// Writes the report at the start of `out` and answers its length. Where `out` is shorter than the longest report nothing is written, and 0 is answered.
+pub fn write(a: Answer, out: &mut [u8]) -> usize
+    ensures short { λ r. ⌜ (length (now (out .entry)) < longestReport → (r ≡ 0) × (now (out .exit) ≡ now (out .entry))) ⌝ }
+    ensures text { λ r. ⌜
+        (longestReport ≤ length (now (out .entry))
+        → (r ≡ length (reportText (answerOf a))) × (now (out .exit) ≡ putAt (now (out .entry)) 0 (reportText (answerOf a))))
+        ⌝ }
+    ensures longest { λ r. ⌜ r ≤ longestReport ⌝ }
+{
+    if out.len() < LONGEST {
+        return 0;
+    }
+    match a {
+        Answer::Refused(refusal) => put_refusal(out, 0, refusal),
+        Answer::Judged {
+            verdicts,
+            records,
+            commits,
+            image_length,
+        } => put_judged(out, records, commits, verdicts),
+    }
 }

@@ -1,22 +1,15 @@
 -- The words of an answer, put into a list in the place of others. Assumes nothing.
 use Prim.Native.Nat.{ℕ, _+_, _≤_}
-use mathlib.Core.Path.{_≡_, refl, sym, ap, _∙_}
+use mathlib.Core.Path.{_≡_, refl, ap, _∙_}
 use mathlib.Core.Option.{Option, some, none}
 use mathlib.Core.List.{List, [], _∷_, _++_, append-assoc, append-nil}
 use native.Mathlib.Omega.{arith}
 use lib.ListN.{length, length-append}
 use Rattle.endian.specs.Endian.{putAt}
+use Rattle.endian.proofs.Put.{put-next}
 use Rattle.trace.specs.Result.{Result}
-use Rattle.endian.proofs.Put.{put-then}
 use Rattle.verdicts.specs.Told.{Told}
 use Rattle.words.specs.Layout.{answerLength, verdictWords, allVerdictWords, wordsOf, codeOf}
-
--- the same words, written behind those that stand there
-put-next : (l : List ℕ) (at k place : ℕ) (a b : List ℕ) {present after : List ℕ}
-    → present ≡ putAt l at a → length a ≡ k → at + k ≡ place → place ≤ length l
-    → after ≡ putAt present place b → after ≡ putAt l at (a ++ b)
-put-next l at k place a b stands long e room put =
-    put ∙ ap (λ q. putAt q place b) stands ∙ ap (λ p. putAt (putAt l at a) p b) (sym e) ∙ put-then l at a b k long (omega arith)
 
 -- a verdict has four
 four-words : (v : Option Told) → length (verdictWords v) ≡ 4

@@ -6,13 +6,12 @@ use lib.ListN.{length}
 use borrow.Author.Needs.{needs}
 use denote.Ref.{now}
 use Rattle.endian.specs.Endian.{putAt, pieces}
-use Rattle.endian.proofs.Put.{put-none}
+use Rattle.endian.proofs.Put.{put-none, put-piece}
 use Rattle.store.specs.Store.{Store}
 use Rattle.store.specs.Image.{commitBytes, ClientsFit}
 use Rattle.state.specs.Keeps.{KeepsCommits}
 use Rattle.image.proofs.Words.{commit-kept}
 use Rattle.image.proofs.Sizes.{length-commits}
-use Rattle.image.proofs.Whole.{put-piece}
 use Rattle.image.proofs.write_commits.Statement.{statement}
 use Rattle.image.proofs.write_commits.Tie as tie
 

@@ -8,7 +8,7 @@ use borrow.Author.Needs.{needs}
 use denote.Ref.{now}
 use Rattle.endian.specs.Endian.{leBytes, putAt, pieces}
 use Rattle.endian.proofs.Laws.{length-leBytes}
-use Rattle.endian.proofs.Put.{put-none}
+use Rattle.endian.proofs.Put.{put-none, put-next, put-piece}
 use Rattle.store.specs.Limits.{maxCommits}
 use Rattle.store.specs.Store.{Store, count, version}
 use Rattle.store.specs.Image.{versionBytes, keyBytes}
@@ -17,7 +17,6 @@ use Rattle.state.specs.Places.{headPlace, readersPlace}
 use Rattle.state.specs.Keeps.{KeepsVersions}
 use Rattle.image.proofs.Words.{version-kept}
 use Rattle.image.proofs.Sizes.{length-versions}
-use Rattle.image.proofs.Whole.{put-next, put-piece}
 use Rattle.image.proofs.write_key.Statement.{statement}
 use Rattle.image.proofs.write_key.Tie as tie
 

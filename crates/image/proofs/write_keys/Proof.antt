@@ -8,7 +8,7 @@ use borrow.Author.Needs.{needs}
 use denote.Ref.{now}
 use Rattle.sets.specs.Set.{size}
 use Rattle.endian.specs.Endian.{putAt, pieces}
-use Rattle.endian.proofs.Put.{put-none}
+use Rattle.endian.proofs.Put.{put-none, put-lent}
 use Rattle.store.specs.Limits.{maxCommits}
 use Rattle.store.specs.Store.{Store, count}
 use Rattle.store.specs.Image.{keyBytes}
@@ -16,7 +16,6 @@ use Rattle.store.specs.Sound.{SoundStore}
 use Rattle.state.specs.Keeps.{KeepsVersions, KeepsKeys}
 use Rattle.image.specs.Parts.{keysSize}
 use Rattle.image.proofs.Sizes.{keysSize-suc, key-within, length-key, length-keys, full-count}
-use Rattle.image.proofs.Whole.{put-lent}
 use Rattle.image.proofs.write_keys.Statement.{statement}
 use Rattle.image.proofs.write_keys.Tie as tie
 
