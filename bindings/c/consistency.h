@@ -19,8 +19,10 @@
 #define CONSISTENCY_LONGEST_FILE 65536
 /* No image is longer; a buffer of this length is never too short. */
 #define CONSISTENCY_LONGEST_IMAGE 16960
+/* No report is longer. */
+#define CONSISTENCY_LONGEST_REPORT 1272
 
-/* Each call answers a code:
+/* Each call but `report_file` answers a code:
  *
  *     0          it has an answer, in the words that the call says;
  *     1 to 15    the file was refused;
@@ -62,5 +64,12 @@ enum {
     CONSISTENCY_SI = 36,
     CONSISTENCY_SER = 40
 };
+
+/* Judges the trace file as `judge_file` does and writes the report, text with a line feed at the end of each line and no 0 byte, at the
+ * start of `text`. Answers the length of the report. Where `text` has less than CONSISTENCY_LONGEST_REPORT bytes nothing is judged or
+ * written, and the answer is 0. */
+size_t report_file(const uint8_t *file, size_t file_length,
+                   uint8_t *image, size_t image_length,
+                   uint8_t *text, size_t text_length);
 
 #endif

@@ -109,6 +109,7 @@ fn the_numbers_of_the_header() {
     };
     defines("LONGEST_FILE", consistency::LONGEST_FILE);
     defines("LONGEST_IMAGE", consistency::LONGEST_IMAGE);
+    defines("LONGEST_REPORT", consistency::LONGEST_REPORT);
     defines("NO_ROOM", consistency::NO_ROOM as usize);
     defines("REFUSAL_WORDS", consistency::REFUSAL_WORDS);
     defines("JUDGE_WORDS", consistency::JUDGE_WORDS);

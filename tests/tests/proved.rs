@@ -1,12 +1,12 @@
 //! The proved judge against the model on generated files, each with image
 //! buffers of many lengths.
 
-use consistency::{judge_words, JUDGE_WORDS, NO_ROOM};
+use consistency::{judge_words, JUDGE_WORDS, LONGEST_REPORT, NO_ROOM};
 use model::beside::{compare, lengths};
 use model::files::files;
 use model::generate::{case, file};
 use model::met::Met;
-use model::outcome;
+use model::{judge, outcome, report};
 use std::thread;
 
 const FILES: u64 = 100_000;
@@ -64,6 +64,37 @@ fn without_room_for_the_words_nothing_is_judged() {
             let mut words = vec![7; room];
             assert_eq!(judge_words(&bench.bytes, &mut image, &mut words), NO_ROOM);
             assert!(words.iter().all(|&word| word == 7), "{name}");
+            assert!(image.iter().all(|&byte| byte == 0xA5), "{name}");
+        }
+    }
+}
+
+/// The report of the first files, and no byte behind it.
+#[test]
+fn the_report_is_the_models() {
+    let bench = files().into_iter().map(|(_, bench)| bench.bytes);
+    for (place, file) in bench.chain((0..20_000).map(file)).enumerate() {
+        for room in [0, 17_000] {
+            let mut due_image = vec![0xA5; room];
+            let due = report(&judge(&file, &mut due_image));
+            let mut image = vec![0xA5; room];
+            let mut text = vec![0xA5; LONGEST_REPORT + 9];
+            let length = consistency::report(&file, &mut image, &mut text);
+            assert_eq!(text[..length], *due.as_bytes(), "file {place}");
+            assert!(text[length..].iter().all(|&byte| byte == 0xA5));
+            assert!(image == due_image, "file {place}");
+        }
+    }
+}
+
+#[test]
+fn without_room_for_the_report_nothing_is_judged() {
+    for (name, bench) in files() {
+        for room in [0, 1, 100, LONGEST_REPORT - 1] {
+            let mut image = vec![0xA5; 17_000];
+            let mut text = vec![7; room];
+            assert_eq!(consistency::report(&bench.bytes, &mut image, &mut text), 0);
+            assert!(text.iter().all(|&byte| byte == 7), "{name}");
             assert!(image.iter().all(|&byte| byte == 0xA5), "{name}");
         }
     }

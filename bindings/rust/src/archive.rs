@@ -9,4 +9,13 @@ extern "C" {
         words: *mut u64,
         words_length: usize,
     ) -> u64;
+
+    pub fn report_file(
+        file: *const u8,
+        file_length: usize,
+        image: *mut u8,
+        image_length: usize,
+        text: *mut u8,
+        text_length: usize,
+    ) -> usize;
 }

@@ -8,9 +8,11 @@
 mod archive;
 mod judging;
 mod refusal;
+mod report;
 
 pub use judging::{judge, judge_words, Answer, Verdict, Verdicts, JUDGE_WORDS};
 pub use refusal::{Key, Refusal, VersionNumber, NO_ROOM, REFUSAL_WORDS};
+pub use report::{report, LONGEST_REPORT};
 
 /// The most bytes that a trace file may have; a longer one is code 1.
 pub const LONGEST_FILE: usize = 65_536;

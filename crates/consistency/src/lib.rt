@@ -8,6 +8,8 @@ ghost use Rattle.endian.specs.Endian.{putAt};
 ghost use Rattle.answer.specs.Answer.{imageAfter};
 ghost use Rattle.answer.specs.Demand3.{Demand3};
 ghost use Rattle.judging.specs.Answers.{toldAnswer};
+ghost use Rattle.report.specs.Report.{reportText};
+ghost use Rattle.report.specs.Longest.{longestReport};
 ghost use Rattle.words.specs.Layout.{noRoom, answerLength, answerWords, codeOf};
 
 // Judges a trace file: ten verdicts, and the image of its store at the start of `image`; or a refusal with codes 1 to 15, and `image` as it came.
@@ -30,4 +32,27 @@ pub extern "C" fn judge_file(file: &[u8], image: &mut [u8], out: &mut [u64]) -> 
         return words::NO_ROOM;
     }
     words::put_answer(out, judging::judge(file, image))
+}
+
+// The report on a trace file as text, at the start of `text`, and its length; `image` is left as `judge_file` leaves it. Where `text` is shorter than the
+// longest report nothing is judged, and 0 is answered.
+#[no_mangle]
+pub extern "C" fn report_file(file: &[u8], image: &mut [u8], text: &mut [u8]) -> usize
+    ensures room { λ r. ⌜
+        (length (now (text .entry)) < longestReport
+        → (r ≡ 0) × (now (text .exit) ≡ now (text .entry)) × (now (image .exit) ≡ now (image .entry)))
+        ⌝ }
+    ensures report { λ r. ⌜
+        (longestReport ≤ length (now (text .entry))
+        → (r ≡ length (reportText (toldAnswer (now (file .entry)) (length (now (image .entry))))))
+        × (now (text .exit) ≡ putAt (now (text .entry)) 0 (reportText (toldAnswer (now (file .entry)) (length (now (image .entry))))))
+        × (now (image .exit) ≡ imageAfter (now (file .entry)) (now (image .entry))))
+        ⌝ }
+    ensures longest { λ r. ⌜ r ≤ longestReport ⌝ }
+    ensures demand3 { λ _. ⌜ Demand3 (now (file .entry)) ⌝ }
+{
+    if text.len() < report::LONGEST {
+        return 0;
+    }
+    report::write(judging::judge(file, image), text)
 }

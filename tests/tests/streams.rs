@@ -1,0 +1,153 @@
+//! The program `judge` where its input or its output fails, is late or is cut:
+//! a failure gets a line on standard error and no report.
+
+use model::bench_traces::trace_b;
+use model::files::{at, report_of};
+use model::trace::encode;
+use std::fs::{self, File, OpenOptions};
+use std::io::Write;
+use std::os::fd::OwnedFd;
+use std::os::unix::net::UnixStream;
+use std::path::PathBuf;
+use std::process::{Command, Output, Stdio};
+use std::thread::sleep;
+use std::time::Duration;
+
+fn program() -> PathBuf {
+    let path = at("target/bin/judge");
+    assert!(
+        path.exists(),
+        "there is no target/bin/judge: `rt check judge` builds it"
+    );
+    path
+}
+
+/// The report that a whole input gets.
+fn due() -> String {
+    report_of(&encode(&trace_b()))
+}
+
+/// What the program says where its streams are these.
+fn run(input: Stdio, output: Stdio) -> (String, String) {
+    let child = Command::new(program())
+        .stdin(input)
+        .stdout(output)
+        .stderr(Stdio::piped())
+        .spawn()
+        .expect("the program starts");
+    said(child.wait_with_output().expect("the program ends"))
+}
+
+fn said(output: Output) -> (String, String) {
+    assert!(output.status.success(), "{:?}", output.status);
+    let text = |bytes| String::from_utf8(bytes).expect("text");
+    (text(output.stdout), text(output.stderr))
+}
+
+/// A shell runs the program with its streams redirected: `line` says how.
+fn redirected(line: &str) -> (String, String) {
+    let output = Command::new("sh")
+        .arg("-c")
+        .arg(format!("exec \"$0\" {line}"))
+        .arg(program())
+        .stdin(Stdio::null())
+        .output()
+        .expect("there is a shell");
+    said(output)
+}
+
+/// The lost update as a file.
+fn lost_update() -> File {
+    File::open(at("examples/B-lost-update")).expect("an example trace")
+}
+
+#[test]
+fn closed_input() {
+    let told = "standard input: Bad file descriptor\n";
+    assert_eq!(redirected("<&-"), (String::new(), told.to_string()));
+}
+
+#[test]
+fn a_directory_as_input() {
+    let told = "standard input: Is a directory\n";
+    assert_eq!(redirected("< /"), (String::new(), told.to_string()));
+}
+
+/// Nothing at all is an input, and no failure.
+#[test]
+fn an_empty_input() {
+    let due = "refused 1 record 0 key 0 version 0\n";
+    assert_eq!(redirected(""), (due.to_string(), String::new()));
+}
+
+#[test]
+fn a_full_device() {
+    let full = OpenOptions::new()
+        .write(true)
+        .open("/dev/full")
+        .expect("a device that is full");
+    let (_, told) = run(lost_update().into(), full.into());
+    assert_eq!(told, "standard output: No space left on device\n");
+}
+
+#[test]
+fn closed_output() {
+    let (_, told) = redirected(">&-");
+    assert_eq!(told, "standard output: Bad file descriptor\n");
+}
+
+/// A file that may have no byte: the signal of that is ignored, so that the
+/// program can tell.
+#[test]
+fn a_cut_output() {
+    let cut = PathBuf::from(env!("CARGO_TARGET_TMPDIR")).join("cut");
+    let output = Command::new("sh")
+        .arg("-c")
+        .arg("trap '' XFSZ; ulimit -f 0; exec \"$0\" > \"$1\"")
+        .arg(program())
+        .arg(&cut)
+        .stdin(lost_update())
+        .output()
+        .expect("there is a shell");
+    let told = "standard output: File too large\n";
+    assert_eq!(said(output), (String::new(), told.to_string()));
+    assert_eq!(fs::read(&cut).expect("the output"), b"");
+}
+
+/// The pieces of the lost update, with pauses.
+fn late(mut to: impl Write) {
+    for piece in encode(&trace_b()).chunks(30) {
+        sleep(Duration::from_millis(100));
+        to.write_all(piece).expect("the input is written");
+    }
+}
+
+#[test]
+fn a_late_writer() {
+    let mut child = Command::new(program())
+        .stdin(Stdio::piped())
+        .stdout(Stdio::piped())
+        .stderr(Stdio::piped())
+        .spawn()
+        .expect("the program starts");
+    late(child.stdin.take().expect("it is piped"));
+    let output = child.wait_with_output().expect("the program ends");
+    assert_eq!(said(output), (due(), String::new()));
+}
+
+/// An input that does not wait: a read finds nothing ready and fails, until
+/// there is something.
+#[test]
+fn an_input_that_is_not_ready() {
+    let (ours, theirs) = UnixStream::pair().expect("two ends");
+    theirs.set_nonblocking(true).expect("an end that does not wait");
+    let child = Command::new(program())
+        .stdin(OwnedFd::from(theirs))
+        .stdout(Stdio::piped())
+        .stderr(Stdio::piped())
+        .spawn()
+        .expect("the program starts");
+    late(ours);
+    let output = child.wait_with_output().expect("the program ends");
+    assert_eq!(said(output), (due(), String::new()));
+}
