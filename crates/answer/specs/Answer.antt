@@ -1,6 +1,7 @@
 -- The whole answer of the judge, as one function of the bytes of a trace file and of the image buffer's length (01, Bench codes;
 -- demands 1 and 2). Assumes nothing.
-use Prim.Native.Nat.{ℕ}
+use Prim.Native.Nat.{ℕ, _≤_}
+use mathlib.Core.Path.{_≡_}
 use mathlib.Core.Bool.{Bool}
 use mathlib.Core.Option.{Option, some, none}
 use mathlib.Core.List.{List, map}
@@ -8,6 +9,7 @@ use lib.Dec.{leb}
 use lib.ListN.{length}
 use Rattle.search.specs.Choose.{choose, need}
 use Rattle.endian.specs.Endian.{putAt}
+use Rattle.store.specs.Limits.{maxImage}
 use Rattle.store.specs.Store.{Store, Configuration, opening}
 use Rattle.store.specs.Update.{final, firstAlong}
 use Rattle.store.specs.Refusal.{Refusal, refuse, refusesEvent}
@@ -68,3 +70,11 @@ bufferAfter buffer (taken t) = choose (leb (length (image (finalStore t))) (leng
 -- what stands in the image buffer after the bytes of a file were judged
 abbrev pub imageAfter : List ℕ → List ℕ → List ℕ
 imageAfter bytes buffer = bufferAfter buffer (accept bytes)
+
+-- what is made of a trace has at most so many bytes, whatever trace the bytes of a file are taken as
+abbrev pub AtMost : ℕ → (Trace → List ℕ) → List ℕ → Type 0
+AtMost most made bytes = (t : Trace) → accept bytes ≡ taken t → length (made t) ≤ most
+
+-- "At most 16,960 bytes" (01, The image)
+abbrev pub ImageFits : List ℕ → Type 0
+ImageFits bytes = AtMost maxImage (λ t. image (finalStore t)) bytes

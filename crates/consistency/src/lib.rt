@@ -5,7 +5,7 @@ ghost use mathlib.Core.Path.{_≡_};
 ghost use Prim.Native.Nat.{_≤_, _<_};
 ghost use lib.ListN.{length};
 ghost use Rattle.endian.specs.Endian.{putAt};
-ghost use Rattle.answer.specs.Answer.{imageAfter};
+ghost use Rattle.answer.specs.Answer.{imageAfter, ImageFits};
 ghost use Rattle.answer.specs.Demand3.{Demand3};
 ghost use Rattle.judging.specs.Answers.{toldAnswer};
 ghost use Rattle.report.specs.Report.{reportText};
@@ -13,7 +13,7 @@ ghost use Rattle.report.specs.Longest.{longestReport};
 ghost use Rattle.words.specs.Layout.{noRoom, answerLength, answerWords, codeOf};
 
 // Judges a trace file: ten verdicts, and the image of its store at the start of `image`; or a refusal with codes 1 to 15, and `image` as it came.
-// Where there is no room for the words nothing is judged.
+// Where there is no room for the words nothing is judged. No file has an image longer than `maxImage` bytes: with such a buffer there is no code 15.
 #[no_mangle]
 pub extern "C" fn judge_file(file: &[u8], image: &mut [u8], out: &mut [u64]) -> u64
     ensures room { λ r. ⌜
@@ -26,6 +26,7 @@ pub extern "C" fn judge_file(file: &[u8], image: &mut [u8], out: &mut [u64]) -> 
         × (now (out .exit) ≡ putAt (now (out .entry)) 0 (answerWords (toldAnswer (now (file .entry)) (length (now (image .entry))))))
         × (now (image .exit) ≡ imageAfter (now (file .entry)) (now (image .entry))))
         ⌝ }
+    ensures longest { λ _. ⌜ ImageFits (now (file .entry)) ⌝ }
     ensures demand3 { λ _. ⌜ Demand3 (now (file .entry)) ⌝ }
 {
     if out.len() < words::ANSWER {

@@ -7,7 +7,7 @@ use taking::Taking;
 use verdicts::told::Verdicts;
 ghost use mathlib.Core.Path.{_≡_};
 ghost use lib.ListN.{length};
-ghost use Rattle.answer.specs.Answer.{imageAfter};
+ghost use Rattle.answer.specs.Answer.{imageAfter, ImageFits};
 ghost use Rattle.answer.specs.Demand3.{Demand3};
 ghost use Rattle.judging.specs.Answers.{answerOf, toldAnswer};
 
@@ -26,6 +26,7 @@ pub enum Answer {
 pub fn judge(file: &[u8], buffer: &mut [u8]) -> Answer
     ensures answer { λ r. ⌜ answerOf r ≡ toldAnswer (now (file .entry)) (length (now (buffer .entry))) ⌝ }
     ensures image { λ _. ⌜ now (buffer .exit) ≡ imageAfter (now (file .entry)) (now (buffer .entry)) ⌝ }
+    ensures longest { λ _. ⌜ ImageFits (now (file .entry)) ⌝ }
     ensures demand3 { λ _. ⌜ Demand3 (now (file .entry)) ⌝ }
 {
     let s = Store::opening();

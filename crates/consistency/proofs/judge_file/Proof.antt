@@ -2,15 +2,21 @@
 use mathlib.Core.Path.{refl}
 use native.Mathlib.Omega.{arith}
 use denote.Ref.{now}
+use Rattle.endian.specs.Endian.{Bytes}
 use Rattle.answer.proofs.Demand3.{demand3}
+use Rattle.judging.proofs.Longest.{image-fits}
 use Rattle.words.specs.Layout.{judgedWords}
 use Rattle.words.proofs.PutWords.{told-words}
 use borrow.Author.Needs.{needs}
 use Rattle.consistency.proofs.judge_file.Statement.{statement}
 use Rattle.consistency.proofs.judge_file.Tie as tie
 
+-- the bytes of the file are bytes
+bytes : (c : tie.Then1) → Bytes (now (c .before .before .before .before .args .file))
+bytes c i = c .before .before .before .shared-slice-known .given i .fits
+
 returns : tie.Need-returns
-returns c = (λ l. (refl, refl, refl), (λ l. absurd (omega arith), demand3 _ (λ i. c .before .before .before .shared-slice-known .given i .fits)))
+returns c = (λ l. (refl, refl, refl), (λ l. absurd (omega arith), (image-fits _ (bytes c), demand3 _ (bytes c))))
 
 judge-requires : tie.Need-judge-requires
 judge-requires c κs = search needs

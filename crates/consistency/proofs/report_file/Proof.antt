@@ -35,7 +35,7 @@ returns-2 c =
       λ l. absurd (omega arith),
       (
         λ l. rw (← judged .0) (text .0, text .1, judged .1 .0),
-        (written .1 .1, judged .1 .1),
+        (written .1 .1, judged .1 .1 .1),
       ),
     )
 

@@ -4,6 +4,7 @@ use Rattle.endian.specs.Endian.{Bytes}
 use Rattle.answer.proofs.Demand3.{demand3}
 use Rattle.taking.proofs.Cases.{says-refused, says-taken}
 use Rattle.judging.proofs.Answered.{refused-answer}
+use Rattle.judging.proofs.Longest.{image-fits}
 use borrow.Author.Needs.{needs}
 use Rattle.judging.proofs.judge.Statement.{statement}
 use Rattle.judging.proofs.judge.Tie as tie
@@ -62,7 +63,7 @@ returns : tie.Need-returns
 returns c =
     let at = refused c in
     let a = refused-answer _ (now (begun at .args .buffer)) _ (says-refused _ _ _ _ (at .take-file .ensures) (c .before .refusal .given .1)) in
-    (a .said, (a .drawn, demand3 _ (bytes at)))
+    (a .said, (a .drawn, (image-fits _ (bytes at), demand3 _ (bytes at))))
 
 same-length : tie.Need-same-length
 same-length c = search needs
@@ -72,7 +73,7 @@ returns-2 c =
     let ended = c .before .before in
     let h = says-taken _ _ _ _ (lent (ended .before) .take-file .ensures) (ended .before .before .before .before .before .before .n .given .1) in
     let a = ended .finish .ensures _ (h .0) (h .1) in
-    (a .0, (a .1, demand3 _ (bytes (lent (ended .before)))))
+    (a .0, (a .1, (image-fits _ (bytes (lent (ended .before))), demand3 _ (bytes (lent (ended .before))))))
 
 pub judge-spec : {M : Type 1} → statement M
 judge-spec =
