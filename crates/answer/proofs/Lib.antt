@@ -1,4 +1,4 @@
-pub mod Bench
+pub mod Examples
 pub mod Taken
 pub mod Orders
 pub mod Graph

@@ -1,4 +1,4 @@
 pub mod Answer
 pub mod Replay
 pub mod Demand3
-pub mod Bench
+pub mod Examples

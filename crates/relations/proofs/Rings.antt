@@ -18,6 +18,10 @@ Marked {K} p L m a b = (k : K) × (p k ≡ m) × L k a b
 abbrev pub MarkedStep : {K : Type 0} → (K → Bool) → (K → ℕ → ℕ → Type 0) → ℕ → ℕ → Type 0
 MarkedStep p L = ThenMaybe (Marked p L false) (Marked p L true)
 
+-- "its last link stands beside its first" (01): of three links the first and the last are marked, so two marked ones stand side by side
+pub ends-side-by-side : sideBySideInRing (λ (marked : Bool). marked) true (false ∷ true ∷ []) ≡ true
+ends-side-by-side = refl
+
 -- a walk of one or more links, with their kinds left open
 pub walk-plus : {K : Type 0} {L : K → ℕ → ℕ → Type 0} {k : K} {ks : List K} {a b : ℕ} → Walk L (k ∷ ks) a b → Plus (λ x y. (k : K) × L k x y) a b
 walk-plus (link l end) = one (_, l)

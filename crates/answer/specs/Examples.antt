@@ -1,5 +1,5 @@
--- The starred traces A to H (01, Traces from the bench): one table of files with the whole answer for each. proofs/Bench.antt is the
--- claim about it. Assumes nothing.
+-- The example traces A to H, the starred ones of 01 ("Traces from the bench"): one table of traces with the whole answer for the file of
+-- each. proofs/Examples.antt is the claim about it. Assumes nothing.
 use Prim.Native.Nat.{ℕ}
 use mathlib.Core.Option.{Option, some, none}
 use mathlib.Core.List.{List, [], _∷_}
@@ -12,7 +12,7 @@ use Rattle.levels.specs.Clause.{Clause, monotonicReads, readYourWrites, monoton
 use Rattle.levels.specs.Level.{Failure}
 use Rattle.answer.specs.Answer.{Report}
 
--- a trace, the length of its file where 01 gives it (0 where not), and the answer
+-- a trace, and the answer for its file
 pub record Row : Type 0 where
   pub trace : Trace
   pub answered : Result Report
@@ -38,7 +38,7 @@ abbrev accepted : Option Failure
 accepted = none
 
 -- refused at a record, which is the commit of that number, by a clause; the version missing is version 1 of key 0
-abbrev fails : ℕ → ℕ → Clause → Option Failure
+abbrev pub fails : ℕ → ℕ → Clause → Option Failure
 fails t n x = some (record { commit = t; atRecord = n; clause = x; key = 0; version = 1 })
 
 -- the ten verdicts stand in report order: MR MW RYW WFR CC UA PSI CP SI SER
@@ -112,7 +112,7 @@ traceD = record {
 
 -- "E* Client 0 writes key 0; client 1 shifts to {0,1}, reads 1, ends with {0}. MR, CC, PSI, CP, SI fail at record 3, clause 1; SER
 -- accepts."
-abbrev traceE : Row
+abbrev pub traceE : Row
 traceE = record {
   trace = record {
     keys = 1;
