@@ -1,13 +1,13 @@
 //! What a trace file is answered with.
 
-/// Either one bench code with what it names, or ten verdicts.
+/// Either one code with what it names, or ten verdicts.
 #[derive(Clone, Copy, PartialEq, Eq, Debug)]
 pub enum Answer {
     Refused(Refusal),
     Judged(Report),
 }
 
-/// A bench code from 1 to 15; record, key and version are 0 where not named.
+/// A code from 1 to 15; record, key and version are 0 where not named.
 #[derive(Clone, Copy, PartialEq, Eq, Debug)]
 pub struct Refusal {
     pub code: u8,

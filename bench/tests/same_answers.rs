@@ -119,7 +119,7 @@ fn generated_files() {
 #[test]
 fn papers_traces() {
     let mut judge = Judge::new();
-    for trace in model::bench_traces::all() {
+    for trace in model::example_traces::all() {
         compare_all(&mut judge, &trace.bytes, trace.name);
     }
 }

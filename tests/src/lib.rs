@@ -6,9 +6,9 @@
 //! Everything is sets, maps and lists, as near to the wording of the paper as
 //! it goes. It is slow on purpose: it is there to be compared with.
 
-pub mod bench_traces;
 #[cfg(feature = "proved")]
 pub mod beside;
+pub mod example_traces;
 pub mod facts;
 pub mod files;
 pub mod form;
@@ -35,7 +35,7 @@ pub enum Answer {
 }
 
 impl Answer {
-    /// The bench code; 0 where the file was judged.
+    /// The code; 0 where the file was judged.
     pub fn code(&self) -> u8 {
         match self {
             Answer::Refused(refusal) => refusal.code,
@@ -44,7 +44,7 @@ impl Answer {
     }
 }
 
-/// One bench code from 1 to 15 with what it names; 0 where it names nothing.
+/// One code from 1 to 15 with what it names; 0 where it names nothing.
 #[derive(Clone, Copy, PartialEq, Eq, PartialOrd, Ord, Debug)]
 pub struct Refusal {
     pub code: u8,
@@ -97,7 +97,7 @@ pub fn judge(trace: &[u8], image: &mut [u8]) -> Answer {
 /// 1 to 14, or the report of a taken trace and the image of its store.
 pub type Outcome = Result<(Report, Vec<u8>), Refusal>;
 
-/// The order of the bench codes: form (1 to 8), then meaning (9 to 14).
+/// The order of the codes: form (1 to 8), then meaning (9 to 14).
 pub fn outcome(file: &[u8]) -> Outcome {
     let trace = form::read(file)?;
     let run = run::run(&trace)?;

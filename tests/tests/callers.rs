@@ -25,10 +25,10 @@ fn due(file: &[u8]) -> String {
     }
 }
 
-fn check(mut example: Command) {
-    for (name, bench) in files() {
-        let said = printed(&mut example, &bench.bytes, usize::MAX);
-        assert_eq!(said, due(&bench.bytes), "{name}");
+fn check(mut caller: Command) {
+    for (name, example) in files() {
+        let said = printed(&mut caller, &example.bytes, usize::MAX);
+        assert_eq!(said, due(&example.bytes), "{name}");
     }
 }
 
@@ -45,7 +45,10 @@ fn room() -> PathBuf {
 
 #[test]
 fn what_the_examples_must_say() {
-    let all: Vec<String> = files().iter().map(|(_, bench)| due(&bench.bytes)).collect();
+    let all: Vec<String> = files()
+        .iter()
+        .map(|(_, example)| due(&example.bytes))
+        .collect();
     assert_eq!(all[1], "no, see record 2\n");
     assert_eq!(all[3], "yes\n");
     assert_eq!(all[11], "code 1 at record 0\n");

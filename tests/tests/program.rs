@@ -4,7 +4,7 @@
 mod common;
 
 use common::printed;
-use model::bench_traces::trace_b;
+use model::example_traces::trace_b;
 use model::files::{at, files, report_of};
 use model::generate::{case, exactly_full, with_true_length};
 use model::met::{possible_combinations, refusing};
@@ -62,8 +62,8 @@ fn generated_files() {
 
 #[test]
 fn examples() {
-    for (name, bench) in files() {
-        check(name, &bench.bytes, &report_of(&bench.bytes));
+    for (name, example) in files() {
+        check(name, &example.bytes, &report_of(&example.bytes));
     }
 }
 

@@ -46,8 +46,8 @@ fn the_proved_judge_answers_as_the_model() {
 /// From none to 8 bytes more than enough.
 #[test]
 fn every_length_of_the_buffer() {
-    let bench = files().into_iter().map(|(_, bench)| bench.bytes);
-    for (place, file) in bench.chain((0..60).map(file)).enumerate() {
+    let examples = files().into_iter().map(|(_, example)| example.bytes);
+    for (place, file) in examples.chain((0..60).map(file)).enumerate() {
         let outcome = outcome(&file);
         let needed = outcome.as_ref().map_or(0, |(_, image)| image.len());
         for length in 0..=needed + 8 {
@@ -58,11 +58,11 @@ fn every_length_of_the_buffer() {
 
 #[test]
 fn without_room_for_the_words_nothing_is_judged() {
-    for (name, bench) in files() {
+    for (name, example) in files() {
         for room in 0..JUDGE_WORDS {
             let mut image = vec![0xA5; 17_000];
             let mut words = vec![7; room];
-            assert_eq!(judge_words(&bench.bytes, &mut image, &mut words), NO_ROOM);
+            assert_eq!(judge_words(&example.bytes, &mut image, &mut words), NO_ROOM);
             assert!(words.iter().all(|&word| word == 7), "{name}");
             assert!(image.iter().all(|&byte| byte == 0xA5), "{name}");
         }
@@ -72,8 +72,8 @@ fn without_room_for_the_words_nothing_is_judged() {
 /// The report of the first files, and no byte behind it.
 #[test]
 fn the_report_is_the_models() {
-    let bench = files().into_iter().map(|(_, bench)| bench.bytes);
-    for (place, file) in bench.chain((0..20_000).map(file)).enumerate() {
+    let examples = files().into_iter().map(|(_, example)| example.bytes);
+    for (place, file) in examples.chain((0..20_000).map(file)).enumerate() {
         for room in [0, 17_000] {
             let mut due_image = vec![0xA5; room];
             let due = report(&judge(&file, &mut due_image));
@@ -89,11 +89,14 @@ fn the_report_is_the_models() {
 
 #[test]
 fn without_room_for_the_report_nothing_is_judged() {
-    for (name, bench) in files() {
+    for (name, example) in files() {
         for room in [0, 1, 100, LONGEST_REPORT - 1] {
             let mut image = vec![0xA5; 17_000];
             let mut text = vec![7; room];
-            assert_eq!(consistency::report(&bench.bytes, &mut image, &mut text), 0);
+            assert_eq!(
+                consistency::report(&example.bytes, &mut image, &mut text),
+                0
+            );
             assert!(text.iter().all(|&byte| byte == 7), "{name}");
             assert!(image.iter().all(|&byte| byte == 0xA5), "{name}");
         }

@@ -1,6 +1,6 @@
 //! The proved judge against the model on files that are spoiled in every way of
 //! one sort: each truncation, each length field with each of many lies, each
-//! bit flipped. The files are those of the bench and generated ones.
+//! bit flipped. The files are example traces and generated ones.
 
 use model::beside::{compare, LONG};
 use model::files::files;
@@ -10,11 +10,11 @@ use model::random::Random;
 use model::trace::encode;
 use std::collections::BTreeMap;
 
-/// The bench's files, and so many taken traces of at most so many bytes.
+/// The example traces, and so many taken traces of at most so many bytes.
 fn some_files(number: usize, bytes: usize) -> Vec<(String, Vec<u8>)> {
     let mut some: Vec<(String, Vec<u8>)> = files()
         .into_iter()
-        .map(|(name, bench)| (name.to_string(), bench.bytes))
+        .map(|(name, example)| (name.to_string(), example.bytes))
         .filter(|(_, file)| file.len() <= bytes)
         .collect();
     let generated = (0..)

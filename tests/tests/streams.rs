@@ -1,7 +1,7 @@
 //! The program `judge` where its input or its output fails, is late or is cut:
 //! a failure gets a line on standard error and no report.
 
-use model::bench_traces::trace_b;
+use model::example_traces::trace_b;
 use model::files::{at, report_of};
 use model::trace::encode;
 use std::fs::{self, File, OpenOptions};
@@ -140,7 +140,9 @@ fn a_late_writer() {
 #[test]
 fn an_input_that_is_not_ready() {
     let (ours, theirs) = UnixStream::pair().expect("two ends");
-    theirs.set_nonblocking(true).expect("an end that does not wait");
+    theirs
+        .set_nonblocking(true)
+        .expect("an end that does not wait");
     let child = Command::new(program())
         .stdin(OwnedFd::from(theirs))
         .stdout(Stdio::piped())

@@ -1,41 +1,41 @@
-//! The traces of the bench against the model.
+//! The example traces against the model.
 
-use model::bench_traces::{all, trace_a, trace_b, Expected};
+use model::example_traces::{all, trace_a, trace_b, Expected};
 use model::trace::encode;
 use model::{judge, report, Answer};
 
 const FILLER: u8 = 0xA5;
 
 #[test]
-fn all_bench_traces() {
-    for bench in all() {
+fn all_example_traces() {
+    for example in all() {
         let mut image = vec![FILLER; 20_000];
-        let answer = judge(&bench.bytes, &mut image);
-        match (answer, bench.expected) {
+        let answer = judge(&example.bytes, &mut image);
+        match (answer, example.expected) {
             (Answer::Refused(refusal), Expected::Refused(expected)) => {
-                assert_eq!(refusal, expected, "trace {}", bench.name);
+                assert_eq!(refusal, expected, "trace {}", example.name);
                 assert!(
                     image.iter().all(|&byte| byte == FILLER),
                     "trace {}",
-                    bench.name
+                    example.name
                 );
             }
             (Answer::Judged(report), Expected::Judged(expected)) => {
-                assert_eq!(report.verdicts, expected, "trace {}", bench.name);
+                assert_eq!(report.verdicts, expected, "trace {}", example.name);
                 assert_eq!(
                     report.records,
-                    bench.trace.records.len(),
+                    example.trace.records.len(),
                     "trace {}",
-                    bench.name
+                    example.name
                 );
                 let rest = &image[report.image_len..];
                 assert!(
                     rest.iter().all(|&byte| byte == FILLER),
                     "trace {}",
-                    bench.name
+                    example.name
                 );
             }
-            _ => panic!("trace {}: {answer:?}", bench.name),
+            _ => panic!("trace {}: {answer:?}", example.name),
         }
     }
 }
@@ -121,9 +121,9 @@ fn short_image_buffer() {
 
 #[test]
 fn every_cut_of_every_trace_is_answered() {
-    for bench in all() {
-        for length in 0..bench.bytes.len() {
-            let mut cut = bench.bytes[..length].to_vec();
+    for example in all() {
+        for length in 0..example.bytes.len() {
+            let mut cut = example.bytes[..length].to_vec();
             let Answer::Refused(refusal) = judge(&cut, &mut []) else {
                 panic!()
             };

@@ -1,5 +1,5 @@
-//! Section "Traces from the bench": traces A to K with the answers that the
-//! paper gives, or that follow from it where it says "the rest".
+//! Section "Traces from the bench": the example traces A to K with the
+//! answers that the paper gives, or that follow from it where it says "the rest".
 
 use crate::store::{Key, Store, Version, View};
 use crate::trace::{encode, Operation, Record, Trace};
@@ -7,7 +7,7 @@ use crate::{Refusal, Verdict};
 
 /// One trace, or one variant of it. `bytes` is the file; it is the encoding of
 /// `trace` except where the paper cuts or spoils the file itself.
-pub struct BenchTrace {
+pub struct ExampleTrace {
     pub name: &'static str,
     pub trace: Trace,
     pub bytes: Vec<u8>,
@@ -22,8 +22,8 @@ pub enum Expected {
 }
 
 /// All of them in the paper's order.
-pub fn all() -> Vec<BenchTrace> {
-    let whole = |name, trace: Trace, expected| BenchTrace {
+pub fn all() -> Vec<ExampleTrace> {
+    let whole = |name, trace: Trace, expected| ExampleTrace {
         name,
         bytes: encode(&trace),
         trace,
@@ -98,13 +98,13 @@ pub fn all() -> Vec<BenchTrace> {
             trace_i_empty(),
             judged(&[]),
         ),
-        BenchTrace {
+        ExampleTrace {
             name: "J, B cut to 79 bytes",
             trace: trace_b(),
             bytes: encode(&trace_b())[..79].to_vec(),
             expected: code(1, 0, 0, 0),
         },
-        BenchTrace {
+        ExampleTrace {
             name: "J, B cut to 79 bytes with first field 79",
             trace: trace_b(),
             bytes: with_first_field(&encode(&trace_b())[..79]),
@@ -112,7 +112,7 @@ pub fn all() -> Vec<BenchTrace> {
         },
         whole("K, 63 commits", trace_k(63), judged(&[])),
         whole("K, 64 commits", trace_k(64), code(8, 64, 0, 0)),
-        BenchTrace {
+        ExampleTrace {
             name: "K, a wrong read in record 1 and kind 9 in record 2",
             trace: trace_k_wrong_read(),
             bytes: with_kind_9_in_record_2(&trace_k_wrong_read()),
