@@ -19,7 +19,12 @@ pub struct Refusal {
 impl Refusal {
     /// A code that names its record only.
     pub fn at(code: u8, record: u32) -> Refusal {
-        Refusal { code, record, key: 0, version: 0 }
+        Refusal {
+            code,
+            record,
+            key: 0,
+            version: 0,
+        }
     }
 }
 
@@ -37,5 +42,11 @@ pub struct Report {
 #[derive(Clone, Copy, PartialEq, Eq, Debug)]
 pub enum Verdict {
     Accepted,
-    Refused { commit: u8, record: u32, clause: u8, key: u8, version: u8 },
+    Refused {
+        commit: u8,
+        record: u32,
+        clause: u8,
+        key: u8,
+        version: u8,
+    },
 }

@@ -28,9 +28,15 @@ fn contenders() -> Vec<Contender> {
     let mut ordinary = Box::new(Judge::new());
     let judge =
         Box::new(move |trace: &[u8], image: &mut [u8]| number(ordinary.judge(trace, image)));
-    let mut all = vec![Contender { name: "ordinary", judge }];
+    let mut all = vec![Contender {
+        name: "ordinary",
+        judge,
+    }];
     if let Some((name, judge)) = proved::proved() {
-        all.push(Contender { name, judge: Box::new(judge) });
+        all.push(Contender {
+            name,
+            judge: Box::new(judge),
+        });
     }
     all
 }
@@ -80,7 +86,12 @@ impl Times {
         let total = match way {
             Way::EachLeast => places
                 .iter()
-                .map(|&place| self.0.iter().map(|round| round[place]).fold(f64::INFINITY, f64::min))
+                .map(|&place| {
+                    self.0
+                        .iter()
+                        .map(|round| round[place])
+                        .fold(f64::INFINITY, f64::min)
+                })
                 .sum(),
             Way::Least => self.0.iter().map(sum).fold(f64::INFINITY, f64::min),
             Way::Median => {
@@ -136,7 +147,11 @@ fn check(contenders: &mut [Contender], traces: &[Trace]) {
             if first.is_empty() {
                 first = image;
             } else {
-                assert!(first == image, "{} writes another image of trace {place}", contender.name);
+                assert!(
+                    first == image,
+                    "{} writes another image of trace {place}",
+                    contender.name
+                );
             }
         }
     }
@@ -147,7 +162,11 @@ fn groups(traces: &[Trace]) -> Vec<Vec<usize>> {
     let all = 0..traces.len();
     let mut groups = vec![all.clone().collect()];
     for style in Style::ALL {
-        groups.push(all.clone().filter(|&place| traces[place].style == style).collect());
+        groups.push(
+            all.clone()
+                .filter(|&place| traces[place].style == style)
+                .collect(),
+        );
     }
     groups
 }

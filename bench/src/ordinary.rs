@@ -92,7 +92,9 @@ impl Judge {
         let mut fault = None;
         let mut commits = 0;
         for number in 1..=header.records {
-            let record = reader.next_record().map_err(|code| Refusal::at(code, number))?;
+            let record = reader
+                .next_record()
+                .map_err(|code| Refusal::at(code, number))?;
             let outcome = match record {
                 Record::Shift { client, masks } => {
                     if fault.is_some() {
@@ -101,7 +103,12 @@ impl Judge {
                     form::masks(masks, &mut self.fresh);
                     self.shift(client)
                 }
-                Record::Commit { client, session, operations, masks } => {
+                Record::Commit {
+                    client,
+                    session,
+                    operations,
+                    masks,
+                } => {
                     if !self.operations.read(operations, header.keys) {
                         return Err(Refusal::at(7, number));
                     }
@@ -118,7 +125,12 @@ impl Judge {
             };
             if let Err(Fault { code, key, version }) = outcome {
                 let (key, version) = (key as u8, version as u8);
-                fault = Some(Refusal { code, record: number, key, version });
+                fault = Some(Refusal {
+                    code,
+                    record: number,
+                    key,
+                    version,
+                });
             }
         }
         if !reader.at_end() {
@@ -145,7 +157,10 @@ impl Judge {
     fn open(&mut self, keys: usize) {
         self.keys = keys;
         self.store.open(keys);
-        let opening = Client { view: self.store.full, ..Client::default() };
+        let opening = Client {
+            view: self.store.full,
+            ..Client::default()
+        };
         self.clients = [opening; CLIENTS];
         self.links.open();
         self.levels = Levels::new();
@@ -229,10 +244,17 @@ impl Judge {
 
         // Verdicts. Where the view lacks nothing, clauses 3 to 8 hold.
         if lacking != 0 {
-            failing |= self.levels.failing_before(store, &mut self.links, had, lacking);
+            failing |= self
+                .levels
+                .failing_before(store, &mut self.links, had, lacking);
         }
         if failing & self.levels.asked != 0 {
-            let step = Step { record, view: &client.view, fresh, had };
+            let step = Step {
+                record,
+                view: &client.view,
+                fresh,
+                had,
+            };
             self.levels.strike(failing, store, &self.links, &step);
         }
 
@@ -393,7 +415,11 @@ impl Store {
             let key = write.key();
             let bit = self.full[key] + 1;
             let version = &mut self.versions[key][highest(bit)];
-            *version = Version { value: write.value(), writer: me as u32, readers: 0 };
+            *version = Version {
+                value: write.value(),
+                writer: me as u32,
+                readers: 0,
+            };
             own[key] = bit;
             self.full[key] |= bit;
             result.keys |= 1 << key;
@@ -435,7 +461,11 @@ impl Store {
     fn changed(&self, view: &Row, held: u64, fresh: &Row, lacking: u64) -> Result<u64, Fault> {
         let gained = self.whole_writers(lacking, &beyond(fresh, view));
         let lost = beyond(view, fresh);
-        let lost = if same(&lost, &[0; KEYS]) { Some(0) } else { self.whole_writers(held, &lost) };
+        let lost = if same(&lost, &[0; KEYS]) {
+            Some(0)
+        } else {
+            self.whole_writers(held, &lost)
+        };
         match (gained, lost) {
             (Some(gained), Some(lost)) => Ok(held & !lost | gained),
             _ => Err(self.half_held(fresh)),
@@ -502,7 +532,10 @@ impl Store {
     }
 
     fn image_len(&self, keys: usize) -> usize {
-        let versions: usize = self.full[..keys].iter().map(|&mask| highest(mask) + 1).sum();
+        let versions: usize = self.full[..keys]
+            .iter()
+            .map(|&mask| highest(mask) + 1)
+            .sum();
         8 + 8 * self.commits + 4 * keys + 16 * versions
     }
 
@@ -561,7 +594,12 @@ struct Steps {
 
 impl Default for Steps {
     fn default() -> Steps {
-        Steps { rows: [0; SLOTS], leads: [0; KEYS], entered: 0, crossed: 0 }
+        Steps {
+            rows: [0; SLOTS],
+            leads: [0; KEYS],
+            entered: 0,
+            crossed: 0,
+        }
     }
 }
 
@@ -577,8 +615,10 @@ impl Links {
     /// Only a commit that read what was already overwritten makes a step from
     /// a later commit to an earlier one.
     fn note_backward(&mut self, commit: &Commit) {
-        self.prefix.note_backward(commit.prefix_links(), commit.reads.over);
-        self.snapshot.note_backward(commit.snapshot_links(), commit.reads.over);
+        self.prefix
+            .note_backward(commit.prefix_links(), commit.reads.over);
+        self.snapshot
+            .note_backward(commit.snapshot_links(), commit.reads.over);
     }
 }
 
@@ -643,7 +683,10 @@ struct Step<'a> {
 
 impl Levels {
     fn new() -> Levels {
-        Levels { verdicts: [Verdict::Accepted; 10], asked: 0b1_1111_1110 }
+        Levels {
+            verdicts: [Verdict::Accepted; 10],
+            asked: 0b1_1111_1110,
+        }
     }
 
     fn asks(&self, clause: u8) -> bool {

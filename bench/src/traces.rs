@@ -103,7 +103,11 @@ struct Client {
 impl Maker {
     fn new(mut random: Random, style: Style, keys: usize) -> Maker {
         let clients = (0..CLIENTS)
-            .map(|_| Client { held: vec![true], least: 0, session: random.below(10) as u32 })
+            .map(|_| Client {
+                held: vec![true],
+                least: 0,
+                session: random.below(10) as u32,
+            })
             .collect();
         Maker {
             random,
@@ -233,7 +237,8 @@ impl Maker {
     fn masks(&self, held: &[bool]) -> Vec<u64> {
         let mask = |versions: &Vec<(u32, usize)>| {
             let bits = versions.iter().enumerate();
-            bits.map(|(version, &(_, writer))| u64::from(held[writer]) << version).sum()
+            bits.map(|(version, &(_, writer))| u64::from(held[writer]) << version)
+                .sum()
         };
         self.versions.iter().map(mask).collect()
     }

@@ -20,7 +20,13 @@ fn refusal(refusal: model::Refusal) -> Refusal {
 fn verdict(verdict: model::Verdict) -> Verdict {
     match verdict {
         model::Verdict::Accepted => Verdict::Accepted,
-        model::Verdict::Refused { commit, record, clause, key, version } => Verdict::Refused {
+        model::Verdict::Refused {
+            commit,
+            record,
+            clause,
+            key,
+            version,
+        } => Verdict::Refused {
             commit: commit as u8,
             record: record as u32,
             clause,
@@ -51,13 +57,20 @@ fn compare(judge: &mut Judge, bytes: &[u8], outcome: &Outcome, room: usize, name
     let mut image = before.clone();
     let mut model_image = before.clone();
     let answer = judge.judge(bytes, &mut image);
-    assert_eq!(answer, expected(model::answer(outcome, &mut model_image)), "{name}");
+    assert_eq!(
+        answer,
+        expected(model::answer(outcome, &mut model_image)),
+        "{name}"
+    );
     assert!(image == model_image, "{name}: image");
     let written = match answer {
         Answer::Refused(_) => 0,
         Answer::Judged(report) => report.image_len as usize,
     };
-    assert!(image[written..] == before[written..], "{name}: bytes after the image");
+    assert!(
+        image[written..] == before[written..],
+        "{name}: bytes after the image"
+    );
     answer
 }
 
@@ -68,9 +81,17 @@ fn compare_all(judge: &mut Judge, bytes: &[u8], name: &str) -> Answer {
     let answer = compare(judge, bytes, &outcome, LONGEST + 64, name);
     if let Answer::Judged(report) = answer {
         let needed = report.image_len as usize;
-        assert_eq!(compare(judge, bytes, &outcome, needed, name), answer, "{name}: exact buffer");
+        assert_eq!(
+            compare(judge, bytes, &outcome, needed, name),
+            answer,
+            "{name}: exact buffer"
+        );
         let short = compare(judge, bytes, &outcome, needed - 1, name);
-        assert_eq!(short, Answer::Refused(Refusal::at(15, 0)), "{name}: short buffer");
+        assert_eq!(
+            short,
+            Answer::Refused(Refusal::at(15, 0)),
+            "{name}: short buffer"
+        );
     }
     answer
 }
@@ -84,7 +105,10 @@ fn code(answer: Answer) -> usize {
 
 /// How many seeds, unless the environment says another number.
 fn seeds() -> u64 {
-    std::env::var("SEEDS").ok().and_then(|text| text.parse().ok()).unwrap_or(20_000)
+    std::env::var("SEEDS")
+        .ok()
+        .and_then(|text| text.parse().ok())
+        .unwrap_or(20_000)
 }
 
 #[test]
@@ -97,7 +121,11 @@ fn generated_files() {
         let room = LONGEST + 64;
         let name = format!("seed {seed} ({})", case.kind);
         // A short buffer now and then, so that code 15 is met as well.
-        let room = if seed % 7 == 0 { room / (1 + seed as usize % 200) } else { room };
+        let room = if seed % 7 == 0 {
+            room / (1 + seed as usize % 200)
+        } else {
+            room
+        };
         let answer = compare(&mut judge, &case.bytes, &outcome(&case.bytes), room, &name);
         codes[code(answer)] += 1;
         if let Answer::Judged(report) = answer {
@@ -112,7 +140,10 @@ fn generated_files() {
     println!("files by code: {codes:?}");
     println!("verdicts by level and clause (0 accepted): {failures:?}");
     if seeds() >= 20_000 {
-        assert!(codes.iter().all(|&count| count > 0), "a code was never met: {codes:?}");
+        assert!(
+            codes.iter().all(|&count| count > 0),
+            "a code was never met: {codes:?}"
+        );
     }
 }
 
