@@ -3,7 +3,7 @@
 //! `vectors` must print for all of them.
 
 use crate::example_traces::{all, ExampleTrace};
-use crate::{judge, report};
+use crate::{judge_with_room, report};
 use std::path::{Path, PathBuf};
 
 /// In the order of `example_traces::all`.
@@ -53,5 +53,15 @@ pub fn at(path: &str) -> PathBuf {
 
 /// The report of one file, with an image buffer that is long enough.
 pub fn report_of(file: &[u8]) -> String {
-    report(&judge(file, &mut vec![0; 16_960]))
+    report(&judge_with_room(file))
+}
+
+/// The program `judge`, as it was built.
+pub fn program() -> PathBuf {
+    let path = at("target/bin/judge");
+    assert!(
+        path.exists(),
+        "there is no target/bin/judge: `rt check judge` builds it"
+    );
+    path
 }

@@ -144,7 +144,7 @@ fn masks_at(bytes: &[u8], at: usize, keys: usize) -> View {
     view
 }
 
-fn u16_at(bytes: &[u8], at: usize) -> u16 {
+pub fn u16_at(bytes: &[u8], at: usize) -> u16 {
     u16::from_le_bytes([bytes[at], bytes[at + 1]])
 }
 

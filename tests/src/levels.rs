@@ -58,6 +58,12 @@ pub const LEVELS: [Level; 10] = [
     },
 ];
 
+/// The place of a level in the report.
+pub fn place_of(name: &str) -> usize {
+    let place = LEVELS.iter().position(|level| level.name == name);
+    place.expect("a level's name")
+}
+
 /// What is missing of a commit by a clause, if anything is.
 pub type Clauses = fn(u8, &Step) -> Option<(Key, Version)>;
 

@@ -8,6 +8,8 @@
 
 #[cfg(feature = "proved")]
 pub mod beside;
+pub mod buffer;
+pub mod by_hand;
 pub mod example_traces;
 pub mod facts;
 pub mod files;
@@ -22,9 +24,11 @@ pub mod run;
 pub mod store;
 pub mod text;
 pub mod trace;
+pub mod words;
 
 pub use facts::replay;
 pub use text::report;
+pub use words::words;
 
 /// What a trace file is answered with.
 #[allow(clippy::large_enum_variant)] // plain data, copied freely
@@ -91,6 +95,11 @@ pub enum Verdict {
 /// the store image stands at its start and the bytes after it are as before.
 pub fn judge(trace: &[u8], image: &mut [u8]) -> Answer {
     answer(&outcome(trace), image)
+}
+
+/// The answer where the image buffer is long enough.
+pub fn judge_with_room(trace: &[u8]) -> Answer {
+    judge(trace, &mut [0; image::LONGEST])
 }
 
 /// What a file comes to before any image buffer is looked at: one of the codes

@@ -6,19 +6,19 @@ mod common;
 
 use common::printed;
 use model::files::{at, files};
-use model::levels::LEVELS;
-use model::{judge, Answer, Verdict};
+use model::levels::{place_of, LEVELS};
+use model::{judge_with_room, Answer, Verdict};
 use std::fs;
 use std::path::{Path, PathBuf};
 use std::process::Command;
 
 /// What an example must print for a file: whether it kept SI.
 fn due(file: &[u8]) -> String {
-    match judge(file, &mut [0; 16_960]) {
+    match judge_with_room(file) {
         Answer::Refused(refusal) => {
             format!("code {} at record {}\n", refusal.code, refusal.record)
         }
-        Answer::Judged(report) => match report.verdicts[8] {
+        Answer::Judged(report) => match report.verdicts[place_of("SI")] {
             Verdict::Accepted => "yes\n".to_string(),
             Verdict::Refused { record, .. } => format!("no, see record {record}\n"),
         },

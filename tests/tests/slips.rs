@@ -7,8 +7,8 @@ use model::generate::taken_case;
 use model::levels::{least_missing, led_to, missing, verdicts_by, Clauses};
 use model::random::Random;
 use model::relations::{
-    compose, dependencies, one_or_more, prefix_steps, rw, snapshot_steps, so, then_maybe, union,
-    wr, ww, Relation,
+    compose, dependencies, one_or_more, prefix_paths, prefix_steps, rw, snapshot_paths,
+    snapshot_steps, so, then_maybe, union, wr, ww, Relation,
 };
 use model::run::{Run, Step};
 use model::store::{writers_in, Key, Store, Version};
@@ -144,12 +144,7 @@ fn held_links_only(clause: u8, step: &Step) -> Missing {
 }
 
 fn six_for_seven(clause: u8, step: &Step) -> Missing {
-    with_paths(
-        clause,
-        step,
-        |store| one_or_more(&snapshot_steps(store)),
-        |store| one_or_more(&prefix_steps(store)),
-    )
+    with_paths(clause, step, snapshot_paths, prefix_paths)
 }
 
 fn without_rw(clause: u8, step: &Step) -> Missing {
@@ -159,12 +154,7 @@ fn without_rw(clause: u8, step: &Step) -> Missing {
 
 fn rw_anywhere(clause: u8, step: &Step) -> Missing {
     let seven = |store: &Store| one_or_more(&dependencies(store));
-    with_paths(
-        clause,
-        step,
-        |store| one_or_more(&prefix_steps(store)),
-        seven,
-    )
+    with_paths(clause, step, prefix_paths, seven)
 }
 
 fn rw_before(clause: u8, step: &Step) -> Missing {
@@ -172,12 +162,7 @@ fn rw_before(clause: u8, step: &Step) -> Missing {
         let others = union(&[so(store), wr(store), ww(store)]);
         one_or_more(&union(&[others.clone(), compose(&rw(store), &others)]))
     };
-    with_paths(
-        clause,
-        step,
-        |store| one_or_more(&prefix_steps(store)),
-        seven,
-    )
+    with_paths(clause, step, prefix_paths, seven)
 }
 
 fn store_after(clause: u8, step: &Step) -> Missing {

@@ -2,12 +2,13 @@
 //! one sort: each truncation, each length field with each of many lies, each
 //! bit flipped. The files are example traces and generated ones.
 
-use model::beside::{compare, LONG};
+use model::beside::compare;
+use model::buffer::LONG;
 use model::files::files;
-use model::generate::{exactly_full, taken_case, with_true_length};
+use model::generate::{exactly_full, record_places, taken_case};
 use model::outcome;
 use model::random::Random;
-use model::trace::encode;
+use model::trace::{encode, with_true_length};
 use std::collections::BTreeMap;
 
 /// The example traces, and so many taken traces of at most so many bytes.
@@ -50,17 +51,6 @@ impl Codes {
     }
 }
 
-/// The places of the records after the header, and the end of the file.
-fn places(file: &[u8]) -> Vec<usize> {
-    let mut places = vec![12];
-    let mut at = 12;
-    while at + 2 <= file.len() {
-        at += usize::from(u16::from_le_bytes([file[at], file[at + 1]])).max(1);
-        places.push(at.min(file.len()));
-    }
-    places
-}
-
 #[test]
 fn every_truncation() {
     let mut codes = Codes::default();
@@ -82,7 +72,7 @@ fn every_truncation() {
 fn every_number_of_records() {
     let mut codes = Codes::default();
     for (name, file) in some_files(150, 2_000) {
-        for (count, place) in places(&file).into_iter().enumerate() {
+        for (count, place) in record_places(&file).into_iter().enumerate() {
             let mut cut = file[..place].to_vec();
             cut[10..12].copy_from_slice(&(count as u16).to_le_bytes());
             codes.spoiled(&format!("{name}, {count} records"), &with_true_length(cut));
@@ -110,7 +100,7 @@ fn truncations_of_a_full_file() {
 /// and the bytes of each.
 fn length_fields(file: &[u8]) -> Vec<(usize, usize)> {
     let mut fields = vec![(0, 4), (4, 2), (10, 2)];
-    for place in places(file) {
+    for place in record_places(file) {
         if place + 6 <= file.len() {
             fields.push((place, 2));
             fields.push((place + 5, 1));
@@ -154,7 +144,7 @@ fn lying_numbers_of_operations() {
     let mut codes = Codes::default();
     for (name, file) in some_files(60, 1_000) {
         let keys = usize::from(file[8]);
-        for place in places(&file) {
+        for place in record_places(&file) {
             if place + 10 > file.len() || file[place + 2] != 3 {
                 continue;
             }

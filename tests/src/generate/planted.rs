@@ -3,6 +3,7 @@
 
 use super::taken::{build, Built, Numbering, Style};
 use super::Expected;
+use crate::form::u16_at;
 use crate::random::Random;
 use crate::store::{newest, writers_in, Author, Key, Store, Version, View, OPENING};
 use crate::trace::{header_bytes, record_bytes, OperationKind, Record, Trace};
@@ -346,7 +347,7 @@ impl Raw {
     }
 
     fn count(&self) -> usize {
-        u16::from_le_bytes([self.header[6], self.header[7]]) as usize
+        u16_at(&self.header, 6) as usize
     }
 
     fn set_count(&mut self, count: usize) {
@@ -500,7 +501,7 @@ fn plant_wrong_record_length(
         }
         _ => {
             let record = &mut raw.records[number - 1];
-            let right = u16::from_le_bytes([record[0], record[1]]);
+            let right = u16_at(record, 0);
             let wrong = [
                 0,
                 4,
