@@ -25,12 +25,21 @@ pub enum Expected {
 
 /// All of them in the paper's order.
 pub fn all() -> Vec<ExampleTrace> {
-    let whole = |name, trace: Trace, expected| ExampleTrace {
+    a_to_g().into_iter().chain(h_to_k()).collect()
+}
+
+/// A file that is the encoding of its trace.
+fn whole(name: &'static str, trace: Trace, expected: Expected) -> ExampleTrace {
+    ExampleTrace {
         name,
         bytes: encode(&trace),
         trace,
         expected,
-    };
+    }
+}
+
+/// Those that get ten verdicts.
+fn a_to_g() -> Vec<ExampleTrace> {
     vec![
         whole("A", trace_a(), judged(&[])),
         whole(
@@ -88,6 +97,12 @@ pub fn all() -> Vec<ExampleTrace> {
                 ("SER", refused(3, 5, 8, 0, 1)),
             ]),
         ),
+    ]
+}
+
+/// Those about codes.
+fn h_to_k() -> Vec<ExampleTrace> {
+    vec![
         whole("H", trace_h(), code(11, 2, 1, 1)),
         whole(
             "I, reads 1 from the opening store",
