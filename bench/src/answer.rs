@@ -1,4 +1,4 @@
-//! What a trace file is answered with.
+//! What a trace file is answered with; the model says the same in wider numbers.
 
 /// Either one code with what it names, or ten verdicts.
 #[derive(Clone, Copy, PartialEq, Eq, Debug)]
@@ -49,4 +49,44 @@ pub enum Verdict {
         key: u8,
         version: u8,
     },
+}
+
+impl From<Answer> for model::Answer {
+    fn from(answer: Answer) -> model::Answer {
+        match answer {
+            Answer::Refused(refusal) => model::Answer::Refused(model::Refusal {
+                code: refusal.code,
+                record: refusal.record as usize,
+                key: refusal.key.into(),
+                version: refusal.version.into(),
+            }),
+            Answer::Judged(report) => model::Answer::Judged(model::Report {
+                verdicts: report.verdicts.map(model::Verdict::from),
+                records: report.records as usize,
+                commits: report.commits as usize,
+                image_len: report.image_len as usize,
+            }),
+        }
+    }
+}
+
+impl From<Verdict> for model::Verdict {
+    fn from(verdict: Verdict) -> model::Verdict {
+        match verdict {
+            Verdict::Accepted => model::Verdict::Accepted,
+            Verdict::Refused {
+                commit,
+                record,
+                clause,
+                key,
+                version,
+            } => model::Verdict::Refused {
+                commit: commit.into(),
+                record: record as usize,
+                clause,
+                key: key.into(),
+                version: version.into(),
+            },
+        }
+    }
 }
