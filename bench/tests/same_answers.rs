@@ -1,11 +1,11 @@
 //! The ordinary judge against a plain model: the same answer to every file,
 //! the same bytes in the lent buffer.
 
-use bench::traces::traces;
+use bench::traces::{describe, traces};
 use bench::Judge;
 use model::buffer::{pattern, untouched, LONG};
 use model::met::Met;
-use model::{outcome, Answer, Outcome, Refusal};
+use model::{outcome, Answer, Outcome, Refusal, Verdict};
 use std::collections::BTreeMap;
 
 /// Both judges on one file, of which the model says this, with a buffer of this
@@ -102,6 +102,29 @@ fn timed_traces() {
             assert_eq!(answer.code(), 0, "{name}: not taken");
         }
     }
+}
+
+/// The traces that are timed are the ones that the figures are of, and there is
+/// something to tell of each level.
+#[test]
+fn what_is_timed() {
+    let timed = traces(1, 1_000, 63, 16);
+    let due = "1000 traces (400 serial, 400 snapshot, 200 wild); \
+               mean: 23365 bytes, 118 records, 906 operations";
+    assert_eq!(describe(&timed), due);
+    let mut judge = Judge::new();
+    let mut refusing = [0; 10];
+    for (number, trace) in timed.iter().enumerate() {
+        let answer = judge.judge(&trace.bytes, &mut pattern(LONG));
+        let Answer::Judged(report) = Answer::from(answer) else {
+            panic!("trace {number}: not taken");
+        };
+        for (count, verdict) in refusing.iter_mut().zip(report.verdicts) {
+            *count += usize::from(verdict != Verdict::Accepted);
+        }
+    }
+    let due = [190, 200, 199, 200, 200, 600, 600, 595, 600, 600];
+    assert_eq!(refusing, due, "traces that each level refuses");
 }
 
 /// The proved judge, as it is timed, on the traces that it is timed with: the
