@@ -5,14 +5,16 @@ use crate::traces::Trace;
 use crate::{Answer, Judge, Refusal};
 use model::image;
 
+/// The most words that an answer has: four numbers, and four for each level.
+const WORDS: usize = 44;
+
 pub trait Contender {
     fn name(&self) -> &'static str;
 
     /// The call that is timed: its answer is kept.
     fn judge(&mut self, file: &[u8], image: &mut [u8]);
 
-    /// The words of the answer that is kept, with nothing behind them but
-    /// zeros.
+    /// The words of the answer that is kept, and zeros up to the most words.
     fn words(&self) -> Vec<u64>;
 }
 
@@ -45,9 +47,6 @@ impl Contender for Ordinary {
         words
     }
 }
-
-/// The most words that an answer has: four numbers and four for each level.
-pub const WORDS: usize = 44;
 
 /// Fails unless every contender takes every trace, and all of them answer the
 /// same words and write the same image.
