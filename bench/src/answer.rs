@@ -1,13 +1,13 @@
-//! What a trace file is answered with.
+//! What a trace file is answered with; the model says the same in wider numbers.
 
-/// Either one bench code with what it names, or ten verdicts.
+/// Either one code with what it names, or ten verdicts.
 #[derive(Clone, Copy, PartialEq, Eq, Debug)]
 pub enum Answer {
     Refused(Refusal),
     Judged(Report),
 }
 
-/// A bench code from 1 to 15; record, key and version are 0 where not named.
+/// A code from 1 to 15; record, key and version are 0 where not named.
 #[derive(Clone, Copy, PartialEq, Eq, Debug)]
 pub struct Refusal {
     pub code: u8,
@@ -19,7 +19,12 @@ pub struct Refusal {
 impl Refusal {
     /// A code that names its record only.
     pub fn at(code: u8, record: u32) -> Refusal {
-        Refusal { code, record, key: 0, version: 0 }
+        Refusal {
+            code,
+            record,
+            key: 0,
+            version: 0,
+        }
     }
 }
 
@@ -37,5 +42,51 @@ pub struct Report {
 #[derive(Clone, Copy, PartialEq, Eq, Debug)]
 pub enum Verdict {
     Accepted,
-    Refused { commit: u8, record: u32, clause: u8, key: u8, version: u8 },
+    Refused {
+        commit: u8,
+        record: u32,
+        clause: u8,
+        key: u8,
+        version: u8,
+    },
+}
+
+impl From<Answer> for model::Answer {
+    fn from(answer: Answer) -> model::Answer {
+        match answer {
+            Answer::Refused(refusal) => model::Answer::Refused(model::Refusal {
+                code: refusal.code,
+                record: refusal.record as usize,
+                key: refusal.key.into(),
+                version: refusal.version.into(),
+            }),
+            Answer::Judged(report) => model::Answer::Judged(model::Report {
+                verdicts: report.verdicts.map(model::Verdict::from),
+                records: report.records as usize,
+                commits: report.commits as usize,
+                image_len: report.image_len as usize,
+            }),
+        }
+    }
+}
+
+impl From<Verdict> for model::Verdict {
+    fn from(verdict: Verdict) -> model::Verdict {
+        match verdict {
+            Verdict::Accepted => model::Verdict::Accepted,
+            Verdict::Refused {
+                commit,
+                record,
+                clause,
+                key,
+                version,
+            } => model::Verdict::Refused {
+                commit: commit.into(),
+                record: record as usize,
+                clause,
+                key: key.into(),
+                version: version.into(),
+            },
+        }
+    }
 }

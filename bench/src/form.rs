@@ -38,13 +38,25 @@ pub fn header(trace: &[u8]) -> Result<Header, Refusal> {
     if u16::from_le_bytes([n0, n1]) != 8 || u16::from_le_bytes([k0, k1]) != 1 || !sized {
         return Err(Refusal::at(2, 0));
     }
-    Ok(Header { keys, clients, records: u32::from(u16::from_le_bytes([c0, c1])) })
+    Ok(Header {
+        keys,
+        clients,
+        records: u32::from(u16::from_le_bytes([c0, c1])),
+    })
 }
 
 /// One record, its length, kind and client found good.
 pub enum Record<'a> {
-    Shift { client: usize, masks: &'a [u8] },
-    Commit { client: usize, session: u32, operations: &'a [u8], masks: &'a [u8] },
+    Shift {
+        client: usize,
+        masks: &'a [u8],
+    },
+    Commit {
+        client: usize,
+        session: u32,
+        operations: &'a [u8],
+        masks: &'a [u8],
+    },
 }
 
 /// The bytes of the records not read yet.
@@ -57,7 +69,11 @@ pub struct Reader<'a> {
 impl<'a> Reader<'a> {
     /// A reader of the records of a trace that has this header.
     pub fn new(trace: &'a [u8], header: &Header) -> Reader<'a> {
-        Reader { rest: &trace[MIN_BYTES..], keys: header.keys, clients: header.clients }
+        Reader {
+            rest: &trace[MIN_BYTES..],
+            keys: header.keys,
+            clients: header.clients,
+        }
     }
 
     pub fn at_end(&self) -> bool {
@@ -82,7 +98,10 @@ impl<'a> Reader<'a> {
                 if record[5] != 0 {
                     return Err(7);
                 }
-                Ok(Record::Shift { client, masks: &record[6..] })
+                Ok(Record::Shift {
+                    client,
+                    masks: &record[6..],
+                })
             }
             3 => {
                 let Some(&count) = self.rest.get(5) else {
@@ -96,7 +115,12 @@ impl<'a> Reader<'a> {
                 let client = self.client(record[4])?;
                 let session = u32::from_le_bytes([record[6], record[7], record[8], record[9]]);
                 let (operations, masks) = record[10..].split_at(bytes);
-                Ok(Record::Commit { client, session, operations, masks })
+                Ok(Record::Commit {
+                    client,
+                    session,
+                    operations,
+                    masks,
+                })
             }
             _ => Err(4),
         }

@@ -2,6 +2,7 @@
 //! proved judge to be timed beside it.
 
 pub mod answer;
+pub mod contender;
 pub mod form;
 pub mod ordinary;
 pub mod proved;

@@ -5,46 +5,12 @@
 use std::hint::black_box;
 use std::time::Instant;
 
-use bench::proved;
+use bench::contender::{check, contenders, Contender};
 use bench::traces::{describe, traces, Style, Trace};
-use bench::{Answer, Judge};
+use model::image;
 
 const SEED: u64 = 1;
 const ROUNDS: usize = 21;
-/// The longest image there is.
-const IMAGE: usize = 16_960;
-
-/// A judge with what it keeps between calls; the number is as `JudgeFn` says.
-type BoxedJudge = Box<dyn FnMut(&[u8], &mut [u8]) -> u64>;
-
-/// A judge to be timed.
-struct Contender {
-    name: &'static str,
-    judge: BoxedJudge,
-}
-
-/// The ordinary judge first; times of the others are compared with its times.
-fn contenders() -> Vec<Contender> {
-    let mut ordinary = Box::new(Judge::new());
-    let judge =
-        Box::new(move |trace: &[u8], image: &mut [u8]| number(ordinary.judge(trace, image)));
-    let mut all = vec![Contender { name: "ordinary", judge }];
-    if let Some((name, judge)) = proved::proved() {
-        all.push(Contender { name, judge: Box::new(judge) });
-    }
-    all
-}
-
-/// An answer as one number: the code in the lowest eight bits, then the length
-/// of the image.
-fn number(answer: Answer) -> u64 {
-    let answer = black_box(answer); // the whole of it is wanted
-    match answer {
-        Answer::Refused(refusal) => u64::from(refusal.code),
-        Answer::Judged(report) => u64::from(report.image_len) << 8,
-    }
-}
-
 /// The times of one contender in microseconds: a row for each round, in it a
 /// time for each trace.
 struct Times(Vec<Vec<f64>>);
@@ -80,7 +46,12 @@ impl Times {
         let total = match way {
             Way::EachLeast => places
                 .iter()
-                .map(|&place| self.0.iter().map(|round| round[place]).fold(f64::INFINITY, f64::min))
+                .map(|&place| {
+                    self.0
+                        .iter()
+                        .map(|round| round[place])
+                        .fold(f64::INFINITY, f64::min)
+                })
                 .sum(),
             Way::Least => self.0.iter().map(sum).fold(f64::INFINITY, f64::min),
             Way::Median => {
@@ -95,17 +66,17 @@ impl Times {
 
 /// Times the contenders on the traces, one after the other in each round; who
 /// is first changes from round to round.
-fn time(contenders: &mut [Contender], traces: &[Trace]) -> Vec<Times> {
-    let mut image = vec![0; IMAGE];
+fn time(contenders: &mut [Box<dyn Contender>], traces: &[Trace]) -> Vec<Times> {
+    let mut image = vec![0; image::LONGEST];
     let mut times: Vec<Times> = contenders.iter().map(|_| Times(Vec::new())).collect();
     for round in 0..ROUNDS {
         for turn in 0..contenders.len() {
             let which = (round + turn) % contenders.len();
-            let judge = &mut contenders[which].judge;
+            let contender = &mut contenders[which];
             let mut spent = Vec::with_capacity(traces.len());
             let mut start = Instant::now();
             for trace in traces {
-                black_box(judge(black_box(&trace.bytes), &mut image));
+                contender.judge(black_box(&trace.bytes), &mut image);
                 let end = Instant::now();
                 spent.push((end - start).as_secs_f64() * 1e6);
                 start = end;
@@ -125,35 +96,22 @@ fn clock_cost() -> f64 {
     start.elapsed().as_secs_f64() * 10.0
 }
 
-/// Every contender takes every trace, and all write the same image.
-fn check(contenders: &mut [Contender], traces: &[Trace]) {
-    for (place, trace) in traces.iter().enumerate() {
-        let mut first = Vec::new();
-        for contender in contenders.iter_mut() {
-            let mut image = vec![0xa5; IMAGE];
-            let code = (contender.judge)(&trace.bytes, &mut image) as u8;
-            assert_eq!(code, 0, "{} refuses trace {place}", contender.name);
-            if first.is_empty() {
-                first = image;
-            } else {
-                assert!(first == image, "{} writes another image of trace {place}", contender.name);
-            }
-        }
-    }
-}
-
 /// The places of all traces and of those of each style.
 fn groups(traces: &[Trace]) -> Vec<Vec<usize>> {
     let all = 0..traces.len();
     let mut groups = vec![all.clone().collect()];
     for style in Style::ALL {
-        groups.push(all.clone().filter(|&place| traces[place].style == style).collect());
+        groups.push(
+            all.clone()
+                .filter(|&place| traces[place].style == style)
+                .collect(),
+        );
     }
     groups
 }
 
 /// The whole table for one set of traces.
-fn print_full(contenders: &mut [Contender], traces: &[Trace]) {
+fn print_full(contenders: &mut [Box<dyn Contender>], traces: &[Trace]) {
     let times = time(contenders, traces);
     let groups = groups(traces);
     print!("{:<12} {:>10} {:>9}", "judge", "", "all");
@@ -163,7 +121,7 @@ fn print_full(contenders: &mut [Contender], traces: &[Trace]) {
     println!();
     for (contender, times) in contenders.iter().zip(&times) {
         for way in Way::ALL {
-            print!("{:<12} {:>10}", contender.name, way.name());
+            print!("{:<12} {:>10}", contender.name(), way.name());
             for group in &groups {
                 print!(" {:>9.2}", times.of(way, group));
             }
@@ -182,10 +140,10 @@ fn print_full(contenders: &mut [Contender], traces: &[Trace]) {
 }
 
 /// One line for each size: how the time grows.
-fn print_growth(contenders: &mut [Contender], sizes: &[(usize, usize)], number: usize) {
+fn print_growth(contenders: &mut [Box<dyn Contender>], sizes: &[(usize, usize)], number: usize) {
     print!("{:>7} {:>5} {:>8}", "commits", "keys", "bytes");
     for (place, contender) in contenders.iter().enumerate() {
-        print!("   {:>10}", contender.name);
+        print!("   {:>10}", contender.name());
         for way in &Way::ALL[1..] {
             print!(" {:>10}", way.name());
         }

@@ -53,6 +53,15 @@ impl Fault {
     fn at(code: u8, key: usize, version: usize) -> Fault {
         Fault { code, key, version }
     }
+
+    fn at_record(&self, record: u32) -> Refusal {
+        Refusal {
+            code: self.code,
+            record,
+            key: self.key as u8,
+            version: self.version as u8,
+        }
+    }
 }
 
 impl Default for Judge {
@@ -89,10 +98,10 @@ impl Judge {
         self.open(header.keys);
 
         let mut reader = Reader::new(trace, &header);
-        let mut fault = None;
-        let mut commits = 0;
+        let (mut fault, mut commits) = (None, 0);
         for number in 1..=header.records {
-            let record = reader.next_record().map_err(|code| Refusal::at(code, number))?;
+            let record = reader.next_record();
+            let record = record.map_err(|code| Refusal::at(code, number))?;
             let outcome = match record {
                 Record::Shift { client, masks } => {
                     if fault.is_some() {
@@ -101,7 +110,12 @@ impl Judge {
                     form::masks(masks, &mut self.fresh);
                     self.shift(client)
                 }
-                Record::Commit { client, session, operations, masks } => {
+                Record::Commit {
+                    client,
+                    session,
+                    operations,
+                    masks,
+                } => {
                     if !self.operations.read(operations, header.keys) {
                         return Err(Refusal::at(7, number));
                     }
@@ -116,9 +130,8 @@ impl Judge {
                     self.commit(number, client, session)
                 }
             };
-            if let Err(Fault { code, key, version }) = outcome {
-                let (key, version) = (key as u8, version as u8);
-                fault = Some(Refusal { code, record: number, key, version });
+            if let Err(found) = outcome {
+                fault = Some(found.at_record(number));
             }
         }
         if !reader.at_end() {
@@ -145,7 +158,10 @@ impl Judge {
     fn open(&mut self, keys: usize) {
         self.keys = keys;
         self.store.open(keys);
-        let opening = Client { view: self.store.full, ..Client::default() };
+        let opening = Client {
+            view: self.store.full,
+            ..Client::default()
+        };
         self.clients = [opening; CLIENTS];
         self.links.open();
         self.levels = Levels::new();
@@ -181,7 +197,7 @@ impl Judge {
 
     /// One commit: operations, view after, verdicts.
     fn commit(&mut self, record: u32, number: usize, session: u32) -> Result<(), Fault> {
-        let (store, fresh) = (&mut self.store, &self.fresh);
+        let (store, links, fresh) = (&mut self.store, &mut self.links, &self.fresh);
         let client = &mut self.clients[number];
         if u64::from(session) < client.bar {
             return Err(Fault::at(9, 0, 0));
@@ -189,21 +205,8 @@ impl Judge {
         let had = client.held;
         let lacking = store.writing & !had;
 
-        // Operations: reads first, as they look at the store before the commit.
-        store.commits += 1;
+        let commit = store.enter(client, number, session, &self.operations)?;
         let me = store.commits;
-        let reads = store.read(&client.view, self.operations.reads(), me)?;
-        let writes = store.write(self.operations.writes(), me);
-        store.history[me] = store.full;
-        let commit = Commit {
-            client: number as u8,
-            session,
-            before: client.stored,
-            drawn: client.drawn | reads.sources,
-            reads,
-            writes,
-        };
-        store.log[me] = commit;
 
         // The view after: nearly always the view before and the own versions.
         let wrote = commit.writes.keys != 0;
@@ -229,22 +232,25 @@ impl Judge {
 
         // Verdicts. Where the view lacks nothing, clauses 3 to 8 hold.
         if lacking != 0 {
-            failing |= self.levels.failing_before(store, &mut self.links, had, lacking);
+            failing |= self.levels.failing_before(store, links, had, lacking);
         }
         if failing & self.levels.asked != 0 {
-            let step = Step { record, view: &client.view, fresh, had };
-            self.levels.strike(failing, store, &self.links, &step);
+            let step = Step {
+                record,
+                view: &client.view,
+                fresh,
+                had,
+            };
+            self.levels.strike(failing, store, links, &step);
         }
 
         // The commit takes its place in its session and in the links.
         client.view = *fresh;
         if wrote || commit.reads.keys != 0 {
-            client.stored |= 1 << me;
-            client.drawn = commit.drawn;
-            client.bar = u64::from(session) + 1;
+            client.add(me, &commit);
         }
         if commit.reads.over != 0 {
-            self.links.note_backward(&commit);
+            links.note_backward(&commit);
         }
         store.writing |= u64::from(wrote) << me;
         Ok(())
@@ -263,6 +269,15 @@ struct Client {
     drawn: u64,
     /// The least session number that may come next.
     bar: u64,
+}
+
+impl Client {
+    /// One more commit with operations.
+    fn add(&mut self, me: usize, commit: &Commit) {
+        self.stored |= 1 << me;
+        self.drawn = commit.drawn;
+        self.bar = u64::from(commit.session) + 1;
+    }
 }
 
 /// What is kept of a commit.
@@ -362,6 +377,31 @@ impl Store {
         self.history[0] = self.full;
     }
 
+    /// Enters a commit: reads first, as they look at the store before it.
+    fn enter(
+        &mut self,
+        client: &Client,
+        number: usize,
+        session: u32,
+        operations: &Operations,
+    ) -> Result<Commit, Fault> {
+        self.commits += 1;
+        let me = self.commits;
+        let reads = self.read(&client.view, operations.reads(), me)?;
+        let writes = self.write(operations.writes(), me);
+        self.history[me] = self.full;
+        let commit = Commit {
+            client: number as u8,
+            session,
+            before: client.stored,
+            drawn: client.drawn | reads.sources,
+            reads,
+            writes,
+        };
+        self.log[me] = commit;
+        Ok(commit)
+    }
+
     /// Enters the reads of a commit; code 13 is due at the least key whose
     /// newest version in the view has another value.
     #[inline(never)] // so that its loop has the registers to itself
@@ -393,7 +433,11 @@ impl Store {
             let key = write.key();
             let bit = self.full[key] + 1;
             let version = &mut self.versions[key][highest(bit)];
-            *version = Version { value: write.value(), writer: me as u32, readers: 0 };
+            *version = Version {
+                value: write.value(),
+                writer: me as u32,
+                readers: 0,
+            };
             own[key] = bit;
             self.full[key] |= bit;
             result.keys |= 1 << key;
@@ -435,7 +479,11 @@ impl Store {
     fn changed(&self, view: &Row, held: u64, fresh: &Row, lacking: u64) -> Result<u64, Fault> {
         let gained = self.whole_writers(lacking, &beyond(fresh, view));
         let lost = beyond(view, fresh);
-        let lost = if same(&lost, &[0; KEYS]) { Some(0) } else { self.whole_writers(held, &lost) };
+        let lost = if same(&lost, &[0; KEYS]) {
+            Some(0)
+        } else {
+            self.whole_writers(held, &lost)
+        };
         match (gained, lost) {
             (Some(gained), Some(lost)) => Ok(held & !lost | gained),
             _ => Err(self.half_held(fresh)),
@@ -502,7 +550,10 @@ impl Store {
     }
 
     fn image_len(&self, keys: usize) -> usize {
-        let versions: usize = self.full[..keys].iter().map(|&mask| highest(mask) + 1).sum();
+        let versions: usize = self.full[..keys]
+            .iter()
+            .map(|&mask| highest(mask) + 1)
+            .sum();
         8 + 8 * self.commits + 4 * keys + 16 * versions
     }
 
@@ -561,7 +612,12 @@ struct Steps {
 
 impl Default for Steps {
     fn default() -> Steps {
-        Steps { rows: [0; SLOTS], leads: [0; KEYS], entered: 0, crossed: 0 }
+        Steps {
+            rows: [0; SLOTS],
+            leads: [0; KEYS],
+            entered: 0,
+            crossed: 0,
+        }
     }
 }
 
@@ -577,8 +633,10 @@ impl Links {
     /// Only a commit that read what was already overwritten makes a step from
     /// a later commit to an earlier one.
     fn note_backward(&mut self, commit: &Commit) {
-        self.prefix.note_backward(commit.prefix_links(), commit.reads.over);
-        self.snapshot.note_backward(commit.snapshot_links(), commit.reads.over);
+        self.prefix
+            .note_backward(commit.prefix_links(), commit.reads.over);
+        self.snapshot
+            .note_backward(commit.snapshot_links(), commit.reads.over);
     }
 }
 
@@ -643,7 +701,10 @@ struct Step<'a> {
 
 impl Levels {
     fn new() -> Levels {
-        Levels { verdicts: [Verdict::Accepted; 10], asked: 0b1_1111_1110 }
+        Levels {
+            verdicts: [Verdict::Accepted; 10],
+            asked: 0b1_1111_1110,
+        }
     }
 
     fn asks(&self, clause: u8) -> bool {

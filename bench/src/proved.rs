@@ -1,29 +1,35 @@
 //! The proved judge, to be timed beside the ordinary one.
 
-/// A judge as the benchmark calls it: the lowest eight bits of the number are
-/// the code, the others may be anything that depends on the answer.
-pub type JudgeFn = fn(&[u8], &mut [u8]) -> u64;
+use crate::contender::Contender;
 
-/// The proved judge with its name, if it is linked in.
+/// The proved judge, if it is linked in.
 #[cfg(not(feature = "proved"))]
-pub fn proved() -> Option<(&'static str, JudgeFn)> {
+pub fn proved() -> Option<Box<dyn Contender>> {
     None
 }
 
-/// The proved judge with its name, if it is linked in.
+/// The proved judge, if it is linked in.
 #[cfg(feature = "proved")]
-pub fn proved() -> Option<(&'static str, JudgeFn)> {
-    Some(("proved", judge))
+pub fn proved() -> Option<Box<dyn Contender>> {
+    Some(Box::new(Proved([0; consistency::JUDGE_WORDS])))
 }
 
-/// The code, and above it the length of the image.
+/// The words of its last answer.
 #[cfg(feature = "proved")]
-fn judge(file: &[u8], image: &mut [u8]) -> u64 {
-    let mut words = [0; consistency::JUDGE_WORDS];
-    let code = consistency::judge_words(file, image, &mut words);
-    if code == 0 {
-        words[3] << 8
-    } else {
-        code
+struct Proved([u64; consistency::JUDGE_WORDS]);
+
+#[cfg(feature = "proved")]
+impl Contender for Proved {
+    fn name(&self) -> &'static str {
+        "proved"
+    }
+
+    fn judge(&mut self, file: &[u8], image: &mut [u8]) {
+        self.0.fill(0);
+        consistency::judge_words(file, image, &mut self.0);
+    }
+
+    fn words(&self) -> Vec<u64> {
+        self.0.to_vec()
     }
 }

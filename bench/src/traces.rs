@@ -5,6 +5,7 @@
 //! own versions if it commits again without a shift), one fifth is wild (any
 //! growing views, and some odd views after a commit). All of them are taken.
 
+use model::random::Random;
 use std::collections::HashMap;
 
 const CLIENTS: usize = 16;
@@ -48,32 +49,12 @@ pub struct Trace {
 
 /// Traces of so many commits over so many keys, by 16 clients.
 pub fn traces(seed: u64, number: usize, commits: usize, keys: usize) -> Vec<Trace> {
-    let mut random = Random(seed);
+    let mut random = Random::seeded(seed);
     (0..number)
-        .map(|number| Maker::new(Random(random.word()), Style::of(number), keys).trace(commits))
+        .map(|number| {
+            Maker::new(Random::seeded(random.word()), Style::of(number), keys).trace(commits)
+        })
         .collect()
-}
-
-/// A generator of random numbers (splitmix64).
-struct Random(u64);
-
-impl Random {
-    fn word(&mut self) -> u64 {
-        self.0 = self.0.wrapping_add(0x9e37_79b9_7f4a_7c15);
-        let mut word = self.0;
-        word = (word ^ (word >> 30)).wrapping_mul(0xbf58_476d_1ce4_e5b9);
-        word = (word ^ (word >> 27)).wrapping_mul(0x94d0_49bb_1331_11eb);
-        word ^ (word >> 31)
-    }
-
-    /// A number below the bound.
-    fn below(&mut self, bound: usize) -> usize {
-        (self.word() % bound as u64) as usize
-    }
-
-    fn percent(&mut self, percent: usize) -> bool {
-        self.below(100) < percent
-    }
 }
 
 /// A trace in the making, with the store that it has made so far.
@@ -103,7 +84,11 @@ struct Client {
 impl Maker {
     fn new(mut random: Random, style: Style, keys: usize) -> Maker {
         let clients = (0..CLIENTS)
-            .map(|_| Client { held: vec![true], least: 0, session: random.below(10) as u32 })
+            .map(|_| Client {
+                held: vec![true],
+                least: 0,
+                session: random.below(10) as u32,
+            })
             .collect();
         Maker {
             random,
@@ -233,7 +218,8 @@ impl Maker {
     fn masks(&self, held: &[bool]) -> Vec<u64> {
         let mask = |versions: &Vec<(u32, usize)>| {
             let bits = versions.iter().enumerate();
-            bits.map(|(version, &(_, writer))| u64::from(held[writer]) << version).sum()
+            bits.map(|(version, &(_, writer))| u64::from(held[writer]) << version)
+                .sum()
         };
         self.versions.iter().map(mask).collect()
     }

@@ -1,7 +1,7 @@
-//! Writes the traces of the bench, and what the programs must print for them,
+//! Writes the example traces, and what the programs must print for them,
 //! to where the repository keeps them: `examples/` and `crates/`.
 
-use model::bench_traces::trace_b;
+use model::example_traces::trace_b;
 use model::files::{arguments, at, files, printed, report_of};
 use model::trace::encode;
 use std::fs;
@@ -9,8 +9,8 @@ use std::fs;
 fn main() -> std::io::Result<()> {
     for folder in ["examples", "crates/vectors/data"] {
         fs::create_dir_all(at(folder))?;
-        for (name, bench) in files() {
-            fs::write(at(folder).join(name), &bench.bytes)?;
+        for (name, example) in files() {
+            fs::write(at(folder).join(name), &example.bytes)?;
         }
     }
     fs::write(at("crates/vectors/args"), arguments())?;

@@ -1,20 +1,13 @@
 //! The proved judge beside the model: the same answer to a file, the same
 //! words, and the same bytes in the lent buffer, whatever its length.
 
-use crate::{answer, Answer, Outcome, Verdict};
+use crate::buffer::{pattern, LONG};
+use crate::{answer, words, Answer, Outcome, Verdict};
 use consistency::{judge, judge_words, Key, Refusal, Verdicts, VersionNumber, JUDGE_WORDS};
-
-/// Long enough for every image.
-pub const LONG: usize = 17_000;
 
 /// Words behind those of an answer, which must not be touched.
 const BEHIND: usize = 4;
 const UNTOUCHED: u64 = 0x5A5A_A5A5_5A5A_A5A5;
-
-/// What a buffer has in it beforehand: at places side by side, other bytes.
-fn pattern(length: usize) -> Vec<u8> {
-    (0..length).map(|place| (place * 37 + 11) as u8).collect()
-}
 
 /// Holds the proved judge's answer for a file and a buffer of this length to
 /// what the model says of the file: the code, the words of the answer and those
@@ -22,15 +15,15 @@ fn pattern(length: usize) -> Vec<u8> {
 pub fn compare(name: &str, file: &[u8], outcome: &Outcome, length: usize) -> Answer {
     let mut due_image = pattern(length);
     let due = answer(outcome, &mut due_image);
-    let mut due_words = words_of(&due);
+    let mut due_words = words(&due);
     let due_code = due_words[0];
     due_words.resize(JUDGE_WORDS + BEHIND, UNTOUCHED);
 
     let mut image = pattern(length);
-    let mut words = [UNTOUCHED; JUDGE_WORDS + BEHIND];
-    let code = judge_words(file, &mut image, &mut words);
+    let mut told_words = [UNTOUCHED; JUDGE_WORDS + BEHIND];
+    let code = judge_words(file, &mut image, &mut told_words);
     assert_eq!(code, due_code, "{name}, buffer of {length}");
-    assert_eq!(words[..], due_words, "{name}, buffer of {length}");
+    assert_eq!(told_words[..], due_words, "{name}, buffer of {length}");
     assert!(
         image == due_image,
         "{name}, buffer of {length}: other bytes"
@@ -55,35 +48,6 @@ pub fn lengths(outcome: &Outcome) -> Vec<usize> {
         lengths.extend(image.len() - 8..=image.len() + 8);
     }
     lengths
-}
-
-/// An answer of the model as words: `crates/words/specs/Layout.antt`.
-fn words_of(answer: &Answer) -> Vec<u64> {
-    match *answer {
-        Answer::Refused(refusal) => {
-            let named = [refusal.record, refusal.key, refusal.version, 0];
-            let mut words = vec![refusal.code.into()];
-            words.extend(named.map(|number| number as u64));
-            words
-        }
-        Answer::Judged(report) => {
-            let numbers = [0, report.records, report.commits, report.image_len];
-            let mut words = numbers.map(|number| number as u64).to_vec();
-            for verdict in report.verdicts {
-                words.extend(match verdict {
-                    Verdict::Accepted => [0; 4],
-                    Verdict::Refused {
-                        record,
-                        clause,
-                        key,
-                        version,
-                        ..
-                    } => [clause.into(), record as u64, key as u64, version as u64],
-                });
-            }
-            words
-        }
-    }
 }
 
 /// An answer of the model in the types for callers in Rust.

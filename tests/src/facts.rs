@@ -1,7 +1,7 @@
 //! Section "The words of demand 3": the facts that hold of every taken trace,
 //! as functions to test with. Each answers what it found false.
 
-use crate::levels::LEVELS;
+use crate::levels::place_of;
 use crate::relations::{
     dependencies, has_loop, one_or_more, rw, so, then_maybe, union, wr, ww, Relation,
 };
@@ -14,17 +14,13 @@ use std::collections::BTreeSet;
 /// The number of the first commit that fails a level; one more than the number
 /// of commits if it accepts.
 pub fn failing_commit(report: &Report, level: &str) -> usize {
-    let index = LEVELS
-        .iter()
-        .position(|known| known.name == level)
-        .expect("a level's name");
-    match report.verdicts[index] {
+    match report.verdicts[place_of(level)] {
         Verdict::Accepted => report.commits + 1,
         Verdict::Refused { commit, .. } => commit,
     }
 }
 
-fn accepts(report: &Report, level: &str) -> bool {
+pub fn accepts(report: &Report, level: &str) -> bool {
     failing_commit(report, level) == report.commits + 1
 }
 

@@ -1,12 +1,12 @@
-//! The traces of the bench as files: the name that each has in `examples/` and
+//! The example traces as files: the name that each has in `examples/` and
 //! in `crates/vectors/data/`, its bytes, and the report that the program
 //! `vectors` must print for all of them.
 
-use crate::bench_traces::{all, BenchTrace};
-use crate::{judge, report};
+use crate::example_traces::{all, ExampleTrace};
+use crate::{judge_with_room, report};
 use std::path::{Path, PathBuf};
 
-/// In the order of `bench_traces::all`.
+/// In the order of `example_traces::all`.
 pub const NAMES: [&str; 16] = [
     "A-header-only",
     "B-lost-update",
@@ -27,7 +27,7 @@ pub const NAMES: [&str; 16] = [
 ];
 
 /// Each trace with the name of its file.
-pub fn files() -> Vec<(&'static str, BenchTrace)> {
+pub fn files() -> Vec<(&'static str, ExampleTrace)> {
     let traces = all();
     assert_eq!(traces.len(), NAMES.len());
     NAMES.into_iter().zip(traces).collect()
@@ -42,7 +42,7 @@ pub fn arguments() -> String {
 pub fn printed() -> String {
     files()
         .iter()
-        .map(|(name, bench)| format!("{name}\n{}", report_of(&bench.bytes)))
+        .map(|(name, example)| format!("{name}\n{}", report_of(&example.bytes)))
         .collect()
 }
 
@@ -53,5 +53,15 @@ pub fn at(path: &str) -> PathBuf {
 
 /// The report of one file, with an image buffer that is long enough.
 pub fn report_of(file: &[u8]) -> String {
-    report(&judge(file, &mut vec![0; 16_960]))
+    report(&judge_with_room(file))
+}
+
+/// The program `judge`, as it was built.
+pub fn program() -> PathBuf {
+    let path = at("target/bin/judge");
+    assert!(
+        path.exists(),
+        "there is no target/bin/judge: `rt check judge` builds it"
+    );
+    path
 }

@@ -56,33 +56,12 @@ fn read_record(
     keys: usize,
     clients: usize,
 ) -> Result<(Record, usize), Refusal> {
-    // Code 3, first part; then code 4; then the rest of code 3.
-    if left.len() < 4 {
-        return Err(Refusal::at(3, number));
-    }
-    let length = u16_at(left, 0) as usize;
-    let kind = u16_at(left, 2);
-    let due = match kind {
-        2 => 6 + 8 * keys,
-        3 => {
-            if left.len() < 6 {
-                return Err(Refusal::at(3, number));
-            }
-            let operations = left[5] as usize;
-            10 + 8 * operations + 8 * keys
-        }
-        _ => return Err(Refusal::at(4, number)),
-    };
-    if length != due || length > left.len() {
-        return Err(Refusal::at(3, number));
-    }
-
+    let length = length_of(left, keys).map_err(|code| Refusal::at(code, number))?;
     let client = left[4] as usize;
     if client >= clients {
         return Err(Refusal::at(6, number));
     }
-
-    let record = if kind == 2 {
+    let record = if u16_at(left, 2) == 2 {
         if left[5] != 0 {
             return Err(Refusal::at(7, number));
         }
@@ -91,26 +70,47 @@ fn read_record(
             view: masks_at(left, 6, keys),
         }
     } else {
-        let count = left[5] as usize;
-        let session = u32_at(left, 6);
-        let mut operations = Vec::new();
-        for index in 0..count {
-            operations.push(operation_at(left, 10 + 8 * index, number, keys)?);
-        }
-        for pair in operations.windows(2) {
-            if (pair[0].key, pair[0].kind) >= (pair[1].key, pair[1].kind) {
-                return Err(Refusal::at(7, number));
-            }
-        }
-        let after = masks_at(left, 10 + 8 * count, keys);
+        let operations = operations_of(left, number, keys)?;
         Record::Commit {
             client,
-            session,
+            session: u32_at(left, 6),
+            after: masks_at(left, 10 + 8 * operations.len(), keys),
             operations,
-            after,
         }
     };
     Ok((record, length))
+}
+
+/// The length of a record of kind 2 or 3, if it is the one that is due and the
+/// file has it. Code 3, first part; then code 4; then the rest of code 3.
+fn length_of(left: &[u8], keys: usize) -> Result<usize, u8> {
+    if left.len() < 4 {
+        return Err(3);
+    }
+    let due = match u16_at(left, 2) {
+        2 => 6 + 8 * keys,
+        3 if left.len() < 6 => return Err(3),
+        3 => 10 + 8 * left[5] as usize + 8 * keys,
+        _ => return Err(4),
+    };
+    if u16_at(left, 0) as usize != due || due > left.len() {
+        return Err(3);
+    }
+    Ok(due)
+}
+
+/// The operations of a commit, each good and all of them in order.
+fn operations_of(left: &[u8], number: usize, keys: usize) -> Result<Vec<Operation>, Refusal> {
+    let mut operations = Vec::new();
+    for index in 0..left[5] as usize {
+        operations.push(operation_at(left, 10 + 8 * index, number, keys)?);
+    }
+    for pair in operations.windows(2) {
+        if (pair[0].key, pair[0].kind) >= (pair[1].key, pair[1].kind) {
+            return Err(Refusal::at(7, number));
+        }
+    }
+    Ok(operations)
 }
 
 fn operation_at(bytes: &[u8], at: usize, number: usize, keys: usize) -> Result<Operation, Refusal> {
@@ -144,7 +144,7 @@ fn masks_at(bytes: &[u8], at: usize, keys: usize) -> View {
     view
 }
 
-fn u16_at(bytes: &[u8], at: usize) -> u16 {
+pub fn u16_at(bytes: &[u8], at: usize) -> u16 {
     u16::from_le_bytes([bytes[at], bytes[at + 1]])
 }
 

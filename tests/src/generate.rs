@@ -7,7 +7,7 @@ pub mod mangled;
 pub mod planted;
 pub mod taken;
 
-pub use mangled::{mangled, with_true_length};
+pub use mangled::{mangled, record_places};
 pub use planted::{competing, planted};
 pub use taken::{build, build_path, exactly_full, largest, Built, Numbering, Rule, Seeing, Style};
 

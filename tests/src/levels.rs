@@ -58,6 +58,12 @@ pub const LEVELS: [Level; 10] = [
     },
 ];
 
+/// The place of a level in the report.
+pub fn place_of(name: &str) -> usize {
+    let place = LEVELS.iter().position(|level| level.name == name);
+    place.expect("a level's name")
+}
+
 /// What is missing of a commit by a clause, if anything is.
 pub type Clauses = fn(u8, &Step) -> Option<(Key, Version)>;
 
@@ -107,12 +113,7 @@ pub fn missing(clause: u8, step: &Step) -> Option<(Key, Version)> {
             step.store_after.get(key, version).writer == step.commit
         }),
         // MW: if u holds a version by t, versions by any t' with t' SO t.
-        3 => {
-            let before = led_to(&so(store), &writers_in(store, u));
-            least_missing(store, u, |key, version| {
-                before.contains(&store.get(key, version).writer)
-            })
-        }
+        3 => missing_before(step, &so(store)),
         // WFR: if u holds a version by t, each version read by t or by a t'
         // with t' SO t.
         4 => {
@@ -131,26 +132,24 @@ pub fn missing(clause: u8, step: &Step) -> Option<(Key, Version)> {
         }),
         // CP and SI: if u holds a version by t, versions by any t' with a path
         // from t' to t.
-        6 => {
-            let before = led_to(&prefix_paths(store), &writers_in(store, u));
-            least_missing(store, u, |key, version| {
-                before.contains(&store.get(key, version).writer)
-            })
-        }
-        7 => {
-            let before = led_to(&snapshot_paths(store), &writers_in(store, u));
-            least_missing(store, u, |key, version| {
-                before.contains(&store.get(key, version).writer)
-            })
-        }
+        6 => missing_before(step, &prefix_paths(store)),
+        7 => missing_before(step, &snapshot_paths(store)),
         // SER: every version of every key.
         8 => least_missing(store, u, |_, _| true),
         _ => unreachable!("there are eight clauses"),
     }
 }
 
+/// If u holds a version by t, versions by any t' with a link from t' to t.
+pub fn missing_before(step: &Step, links: &Relation) -> Option<(Key, Version)> {
+    let before = led_to(links, &writers_in(&step.store, &step.u));
+    least_missing(&step.store, &step.u, |key, version| {
+        before.contains(&step.store.get(key, version).writer)
+    })
+}
+
 /// The t' with a link to one of the given t.
-pub fn led_to(links: &Relation, targets: &BTreeSet<CommitNumber>) -> BTreeSet<CommitNumber> {
+fn led_to(links: &Relation, targets: &BTreeSet<CommitNumber>) -> BTreeSet<CommitNumber> {
     links
         .iter()
         .filter(|link| targets.contains(&link.1))

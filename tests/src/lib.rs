@@ -6,9 +6,11 @@
 //! Everything is sets, maps and lists, as near to the wording of the paper as
 //! it goes. It is slow on purpose: it is there to be compared with.
 
-pub mod bench_traces;
 #[cfg(feature = "proved")]
 pub mod beside;
+pub mod buffer;
+pub mod by_hand;
+pub mod example_traces;
 pub mod facts;
 pub mod files;
 pub mod form;
@@ -22,9 +24,11 @@ pub mod run;
 pub mod store;
 pub mod text;
 pub mod trace;
+pub mod words;
 
 pub use facts::replay;
 pub use text::report;
+pub use words::words;
 
 /// What a trace file is answered with.
 #[allow(clippy::large_enum_variant)] // plain data, copied freely
@@ -35,7 +39,7 @@ pub enum Answer {
 }
 
 impl Answer {
-    /// The bench code; 0 where the file was judged.
+    /// The code; 0 where the file was judged.
     pub fn code(&self) -> u8 {
         match self {
             Answer::Refused(refusal) => refusal.code,
@@ -44,7 +48,7 @@ impl Answer {
     }
 }
 
-/// One bench code from 1 to 15 with what it names; 0 where it names nothing.
+/// One code from 1 to 15 with what it names; 0 where it names nothing.
 #[derive(Clone, Copy, PartialEq, Eq, PartialOrd, Ord, Debug)]
 pub struct Refusal {
     pub code: u8,
@@ -93,11 +97,16 @@ pub fn judge(trace: &[u8], image: &mut [u8]) -> Answer {
     answer(&outcome(trace), image)
 }
 
+/// The answer where the image buffer is long enough.
+pub fn judge_with_room(trace: &[u8]) -> Answer {
+    judge(trace, &mut [0; image::LONGEST])
+}
+
 /// What a file comes to before any image buffer is looked at: one of the codes
 /// 1 to 14, or the report of a taken trace and the image of its store.
 pub type Outcome = Result<(Report, Vec<u8>), Refusal>;
 
-/// The order of the bench codes: form (1 to 8), then meaning (9 to 14).
+/// The order of the codes: form (1 to 8), then meaning (9 to 14).
 pub fn outcome(file: &[u8]) -> Outcome {
     let trace = form::read(file)?;
     let run = run::run(&trace)?;

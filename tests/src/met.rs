@@ -1,9 +1,10 @@
 //! What a run over many files met, counted: to be printed, and to fail where
 //! something was never met.
 
-use crate::generate::{Case, KINDS};
+use crate::generate::{case, Case, KINDS};
 use crate::levels::LEVELS;
-use crate::{Answer, Verdict};
+use crate::store::Store;
+use crate::{image, outcome, Answer, Outcome, Verdict};
 use std::collections::{BTreeMap, BTreeSet};
 
 #[derive(Default)]
@@ -26,8 +27,29 @@ pub struct Met {
 }
 
 impl Met {
+    /// Counts the files of some seeds, and the answers that each is found to
+    /// get, what the model says of it being known.
+    pub fn of(
+        seeds: impl Iterator<Item = u64>,
+        mut answers: impl FnMut(u64, &Case, &Outcome) -> Vec<Answer>,
+    ) -> Met {
+        let mut met = Met::default();
+        for seed in seeds {
+            let case = case(seed);
+            let outcome = outcome(&case.bytes);
+            met.file(&case);
+            if let Ok((report, image)) = &outcome {
+                met.judged(&case.bytes, image.len(), &report.verdicts);
+            }
+            for answer in answers(seed, &case, &outcome) {
+                *met.codes.entry(answer.code()).or_default() += 1;
+            }
+        }
+        met
+    }
+
     /// Counts how a file was made.
-    pub fn file(&mut self, case: &Case) {
+    fn file(&mut self, case: &Case) {
         *self.kinds.entry(case.kind).or_default() += 1;
         if let [one] = case.planted[..] {
             self.planted.entry(one.code).or_default().insert(one.record);
@@ -43,13 +65,8 @@ impl Met {
         }
     }
 
-    /// Counts an answer by its code.
-    pub fn answer(&mut self, answer: &Answer) {
-        *self.codes.entry(answer.code()).or_default() += 1;
-    }
-
     /// Counts the verdicts on a file that was judged.
-    pub fn judged(&mut self, file: &[u8], image_len: usize, verdicts: &[Verdict; 10]) {
+    fn judged(&mut self, file: &[u8], image_len: usize, verdicts: &[Verdict; 10]) {
         for (level, verdict) in LEVELS.iter().zip(verdicts) {
             if let Verdict::Refused { clause, .. } = verdict {
                 *self.clauses.entry((level.name, *clause)).or_default() += 1;
@@ -142,7 +159,8 @@ impl Met {
         }
         let met: BTreeSet<String> = self.combinations.keys().cloned().collect();
         assert_eq!(met, possible_combinations());
-        assert_eq!((self.longest_file, self.longest_image), (65_536, 16_960));
+        assert_eq!(self.longest_file, Store::MAX_BYTES);
+        assert_eq!(self.longest_image, image::LONGEST);
     }
 }
 

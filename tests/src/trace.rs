@@ -16,24 +16,6 @@ pub struct Operation {
     pub value: u32,
 }
 
-impl Operation {
-    pub fn read(key: usize, value: u32) -> Operation {
-        Operation {
-            kind: OperationKind::Read,
-            key: Key(key),
-            value,
-        }
-    }
-
-    pub fn write(key: usize, value: u32) -> Operation {
-        Operation {
-            kind: OperationKind::Write,
-            key: Key(key),
-            value,
-        }
-    }
-}
-
 /// Kind 2 and kind 3. A view here is what the masks say, good or not.
 #[derive(Clone, PartialEq, Eq, Debug)]
 pub enum Record {
@@ -59,13 +41,19 @@ pub struct Trace {
 
 /// The whole file of a trace.
 pub fn encode(trace: &Trace) -> Vec<u8> {
-    let mut body = header_bytes(trace);
+    let mut file = vec![0; 4];
+    file.extend(header_bytes(trace));
     for record in &trace.records {
-        body.extend(record_bytes(record, trace.keys));
+        file.extend(record_bytes(record, trace.keys));
     }
-    let mut file = ((body.len() + 4) as u32).to_le_bytes().to_vec();
-    file.extend(body);
-    file
+    with_true_length(file)
+}
+
+/// The first field says how long the whole is, which has that field.
+pub fn with_true_length(mut bytes: Vec<u8>) -> Vec<u8> {
+    let length = bytes.len() as u32;
+    bytes[..4].copy_from_slice(&length.to_le_bytes());
+    bytes
 }
 
 /// Record 0.

@@ -6,29 +6,29 @@ mod common;
 
 use common::printed;
 use model::files::{at, files};
-use model::levels::LEVELS;
-use model::{judge, Answer, Verdict};
+use model::levels::{place_of, LEVELS};
+use model::{judge_with_room, Answer, Verdict};
 use std::fs;
 use std::path::{Path, PathBuf};
 use std::process::Command;
 
 /// What an example must print for a file: whether it kept SI.
 fn due(file: &[u8]) -> String {
-    match judge(file, &mut [0; 16_960]) {
+    match judge_with_room(file) {
         Answer::Refused(refusal) => {
             format!("code {} at record {}\n", refusal.code, refusal.record)
         }
-        Answer::Judged(report) => match report.verdicts[8] {
+        Answer::Judged(report) => match report.verdicts[place_of("SI")] {
             Verdict::Accepted => "yes\n".to_string(),
             Verdict::Refused { record, .. } => format!("no, see record {record}\n"),
         },
     }
 }
 
-fn check(mut example: Command) {
-    for (name, bench) in files() {
-        let said = printed(&mut example, &bench.bytes, usize::MAX);
-        assert_eq!(said, due(&bench.bytes), "{name}");
+fn check(mut caller: Command) {
+    for (name, example) in files() {
+        let said = printed(&mut caller, &example.bytes, usize::MAX);
+        assert_eq!(said, due(&example.bytes), "{name}");
     }
 }
 
@@ -45,7 +45,10 @@ fn room() -> PathBuf {
 
 #[test]
 fn what_the_examples_must_say() {
-    let all: Vec<String> = files().iter().map(|(_, bench)| due(&bench.bytes)).collect();
+    let all: Vec<String> = files()
+        .iter()
+        .map(|(_, example)| due(&example.bytes))
+        .collect();
     assert_eq!(all[1], "no, see record 2\n");
     assert_eq!(all[3], "yes\n");
     assert_eq!(all[11], "code 1 at record 0\n");

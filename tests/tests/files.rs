@@ -1,7 +1,7 @@
 //! The files that the repository keeps are those of the model. Where one is
 //! not, `cargo run --offline --example write_traces` writes them again.
 
-use model::bench_traces::trace_b;
+use model::example_traces::trace_b;
 use model::files::{arguments, at, files, printed, report_of};
 use model::trace::encode;
 use std::collections::BTreeSet;
@@ -21,11 +21,11 @@ fn names_in(folder: &str) -> BTreeSet<String> {
 
 #[test]
 fn traces() {
-    for (name, bench) in files() {
+    for (name, example) in files() {
         for folder in ["examples", "crates/vectors/data"] {
             assert_eq!(
                 kept(&format!("{folder}/{name}")),
-                bench.bytes,
+                example.bytes,
                 "{folder}/{name}"
             );
         }

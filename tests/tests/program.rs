@@ -4,29 +4,24 @@
 mod common;
 
 use common::printed;
-use model::bench_traces::trace_b;
-use model::files::{at, files, report_of};
-use model::generate::{case, exactly_full, with_true_length};
+use model::example_traces::trace_b;
+use model::files::{files, program, report_of};
+use model::generate::{case, exactly_full};
 use model::met::{possible_combinations, refusing};
 use model::random::Random;
-use model::trace::encode;
-use model::{judge, report, Answer};
+use model::trace::{encode, with_true_length};
+use model::{judge_with_room, report, Answer};
 use std::collections::BTreeMap;
 use std::process::Command;
 
 const WHOLE: usize = usize::MAX;
 
-fn program() -> Command {
-    let path = at("target/bin/judge");
-    assert!(
-        path.exists(),
-        "there is no target/bin/judge: `rt check judge` builds it"
-    );
-    Command::new(path)
-}
-
 fn check(name: &str, file: &[u8], due: &str) {
-    assert_eq!(printed(&mut program(), file, WHOLE), due, "{name}");
+    assert_eq!(
+        printed(&mut Command::new(program()), file, WHOLE),
+        due,
+        "{name}"
+    );
 }
 
 /// Ten files of each code and of each combination of verdicts, or as many as
@@ -42,7 +37,7 @@ fn generated_files() {
     }
     for seed in 0..8_000 {
         let file = case(seed).bytes;
-        let answer = judge(&file, &mut [0; 16_960]);
+        let answer = judge_with_room(&file);
         let sort = match &answer {
             Answer::Refused(refusal) => format!("code {}", refusal.code),
             Answer::Judged(report) => refusing(&report.verdicts),
@@ -62,8 +57,8 @@ fn generated_files() {
 
 #[test]
 fn examples() {
-    for (name, bench) in files() {
-        check(name, &bench.bytes, &report_of(&bench.bytes));
+    for (name, example) in files() {
+        check(name, &example.bytes, &report_of(&example.bytes));
     }
 }
 
@@ -108,7 +103,10 @@ fn the_longest_input() {
 #[test]
 fn input_in_pieces() {
     let b = encode(&trace_b());
-    assert_eq!(printed(&mut program(), &b, 1), report_of(&b));
+    assert_eq!(printed(&mut Command::new(program()), &b, 1), report_of(&b));
     let full = encode(&exactly_full(&mut Random::seeded(2)).trace);
-    assert_eq!(printed(&mut program(), &full, 1_000), report_of(&full));
+    assert_eq!(
+        printed(&mut Command::new(program()), &full, 1_000),
+        report_of(&full)
+    );
 }

@@ -3,8 +3,9 @@
 
 use consistency::{judge_words, JUDGE_WORDS, LONGEST_REPORT, NO_ROOM};
 use model::beside::{compare, lengths};
+use model::buffer::{pattern, untouched, LONG};
 use model::files::files;
-use model::generate::{case, file};
+use model::generate::file;
 use model::met::Met;
 use model::{judge, outcome, report};
 use std::thread;
@@ -14,20 +15,14 @@ const THREADS: u64 = 2;
 
 /// One thread's share: the files of this seed and of each `THREADS`th after it.
 fn compare_from(first: u64) -> Met {
-    let mut met = Met::default();
-    for seed in (first..FILES).step_by(THREADS as usize) {
-        let case = case(seed);
-        met.file(&case);
-        let outcome = outcome(&case.bytes);
-        if let Ok((report, image)) = &outcome {
-            met.judged(&case.bytes, image.len(), &report.verdicts);
-        }
+    let seeds = (first..FILES).step_by(THREADS as usize);
+    Met::of(seeds, |seed, case, outcome| {
         let name = format!("seed {seed}");
-        for length in lengths(&outcome) {
-            met.answer(&compare(&name, &case.bytes, &outcome, length));
-        }
-    }
-    met
+        let lengths = lengths(outcome).into_iter();
+        lengths
+            .map(|length| compare(&name, &case.bytes, outcome, length))
+            .collect()
+    })
 }
 
 #[test]
@@ -43,11 +38,16 @@ fn the_proved_judge_answers_as_the_model() {
     met.lacks_nothing();
 }
 
+/// The example traces and the files of the first seeds.
+fn first_files(seeds: u64) -> impl Iterator<Item = Vec<u8>> {
+    let examples = files().into_iter().map(|(_, example)| example.bytes);
+    examples.chain((0..seeds).map(file))
+}
+
 /// From none to 8 bytes more than enough.
 #[test]
 fn every_length_of_the_buffer() {
-    let bench = files().into_iter().map(|(_, bench)| bench.bytes);
-    for (place, file) in bench.chain((0..60).map(file)).enumerate() {
+    for (place, file) in first_files(60).enumerate() {
         let outcome = outcome(&file);
         let needed = outcome.as_ref().map_or(0, |(_, image)| image.len());
         for length in 0..=needed + 8 {
@@ -58,13 +58,13 @@ fn every_length_of_the_buffer() {
 
 #[test]
 fn without_room_for_the_words_nothing_is_judged() {
-    for (name, bench) in files() {
+    for (name, example) in files() {
         for room in 0..JUDGE_WORDS {
-            let mut image = vec![0xA5; 17_000];
+            let mut image = pattern(LONG);
             let mut words = vec![7; room];
-            assert_eq!(judge_words(&bench.bytes, &mut image, &mut words), NO_ROOM);
+            assert_eq!(judge_words(&example.bytes, &mut image, &mut words), NO_ROOM);
             assert!(words.iter().all(|&word| word == 7), "{name}");
-            assert!(image.iter().all(|&byte| byte == 0xA5), "{name}");
+            assert!(untouched(&image, 0), "{name}");
         }
     }
 }
@@ -72,16 +72,15 @@ fn without_room_for_the_words_nothing_is_judged() {
 /// The report of the first files, and no byte behind it.
 #[test]
 fn the_report_is_the_models() {
-    let bench = files().into_iter().map(|(_, bench)| bench.bytes);
-    for (place, file) in bench.chain((0..20_000).map(file)).enumerate() {
-        for room in [0, 17_000] {
-            let mut due_image = vec![0xA5; room];
+    for (place, file) in first_files(20_000).enumerate() {
+        for room in [0, LONG] {
+            let mut due_image = pattern(room);
             let due = report(&judge(&file, &mut due_image));
-            let mut image = vec![0xA5; room];
-            let mut text = vec![0xA5; LONGEST_REPORT + 9];
+            let mut image = pattern(room);
+            let mut text = pattern(LONGEST_REPORT + 9);
             let length = consistency::report(&file, &mut image, &mut text);
             assert_eq!(text[..length], *due.as_bytes(), "file {place}");
-            assert!(text[length..].iter().all(|&byte| byte == 0xA5));
+            assert!(untouched(&text, length), "file {place}");
             assert!(image == due_image, "file {place}");
         }
     }
@@ -89,13 +88,16 @@ fn the_report_is_the_models() {
 
 #[test]
 fn without_room_for_the_report_nothing_is_judged() {
-    for (name, bench) in files() {
+    for (name, example) in files() {
         for room in [0, 1, 100, LONGEST_REPORT - 1] {
-            let mut image = vec![0xA5; 17_000];
+            let mut image = pattern(LONG);
             let mut text = vec![7; room];
-            assert_eq!(consistency::report(&bench.bytes, &mut image, &mut text), 0);
+            assert_eq!(
+                consistency::report(&example.bytes, &mut image, &mut text),
+                0
+            );
             assert!(text.iter().all(|&byte| byte == 7), "{name}");
-            assert!(image.iter().all(|&byte| byte == 0xA5), "{name}");
+            assert!(untouched(&image, 0), "{name}");
         }
     }
 }

@@ -1,41 +1,10 @@
 //! Sentences of the paper that could be read in two ways, each pinned by a
 //! small file.
 
-use model::store::{Key, Version, View};
-use model::trace::{encode, Operation, Record, Trace};
-use model::{judge, Answer, Refusal, Report};
-
-fn view(held: &[&[usize]]) -> View {
-    let mut view = View::new();
-    for (key, versions) in held.iter().enumerate() {
-        view.extend(versions.iter().map(|&version| (Key(key), Version(version))));
-    }
-    view
-}
-
-fn shift(client: usize, held: &[&[usize]]) -> Record {
-    Record::Shift {
-        client,
-        view: view(held),
-    }
-}
-
-fn commit(client: usize, session: u32, operations: &[Operation], held: &[&[usize]]) -> Record {
-    Record::Commit {
-        client,
-        session,
-        operations: operations.to_vec(),
-        after: view(held),
-    }
-}
-
-fn read(key: usize, value: u32) -> Operation {
-    Operation::read(key, value)
-}
-
-fn write(key: usize, value: u32) -> Operation {
-    Operation::write(key, value)
-}
+use model::buffer::LONG;
+use model::by_hand::{commit, read, shift, write};
+use model::trace::{encode, with_true_length, Record, Trace};
+use model::{judge, judge_with_room, Answer, Report};
 
 fn file(keys: usize, clients: usize, records: &[Record]) -> Vec<u8> {
     encode(&Trace {
@@ -45,26 +14,15 @@ fn file(keys: usize, clients: usize, records: &[Record]) -> Vec<u8> {
     })
 }
 
-fn with_length(mut file: Vec<u8>) -> Vec<u8> {
-    let length = file.len() as u32;
-    file[..4].copy_from_slice(&length.to_le_bytes());
-    file
-}
-
-fn refusal(file: &[u8]) -> Refusal {
-    match judge(file, &mut [0; 17_000]) {
-        Answer::Refused(refusal) => refusal,
+fn refused(file: &[u8]) -> (u8, usize, usize, usize) {
+    match judge_with_room(file) {
+        Answer::Refused(refusal) => (refusal.code, refusal.record, refusal.key, refusal.version),
         Answer::Judged(report) => panic!("{report:?}"),
     }
 }
 
-fn refused(file: &[u8]) -> (u8, usize, usize, usize) {
-    let refusal = refusal(file);
-    (refusal.code, refusal.record, refusal.key, refusal.version)
-}
-
 fn taken(file: &[u8]) -> (Report, Vec<u8>) {
-    let mut image = vec![0; 17_000];
+    let mut image = vec![0; LONG];
     match judge(file, &mut image) {
         Answer::Judged(report) => (report, image[..report.image_len].to_vec()),
         Answer::Refused(refusal) => panic!("{refusal:?}"),
@@ -87,7 +45,7 @@ fn the_byte_m_beyond_the_end() {
     for left in 0..6 {
         let bytes = file(1, 1, &[commit(0, 0, &[], &[&[0]])]);
         assert_eq!(
-            refused(&with_length(bytes[..12 + left].to_vec())),
+            refused(&with_true_length(bytes[..12 + left].to_vec())),
             (3, 1, 0, 0)
         );
     }

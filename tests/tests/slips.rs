@@ -4,11 +4,11 @@
 
 use model::facts::taken;
 use model::generate::taken_case;
-use model::levels::{least_missing, led_to, missing, verdicts_by, Clauses};
+use model::levels::{least_missing, missing, missing_before, verdicts_by, Clauses};
 use model::random::Random;
 use model::relations::{
-    compose, dependencies, one_or_more, prefix_steps, rw, snapshot_steps, so, then_maybe, union,
-    wr, ww, Relation,
+    compose, dependencies, one_or_more, prefix_paths, prefix_steps, rw, snapshot_paths,
+    snapshot_steps, so, then_maybe, union, wr, ww, Relation,
 };
 use model::run::{Run, Step};
 use model::store::{writers_in, Key, Store, Version};
@@ -84,14 +84,7 @@ fn with_paths(
         7 => seven(&step.store),
         _ => return missing(clause, step),
     };
-    wanted_by(step, &paths)
-}
-
-fn wanted_by(step: &Step, links: &Relation) -> Missing {
-    let before = led_to(links, &writers_in(&step.store, &step.u));
-    least_missing(&step.store, &step.u, |key, version| {
-        before.contains(&step.store.get(key, version).writer)
-    })
+    missing_before(step, &paths)
 }
 
 fn direct_links_only(clause: u8, step: &Step) -> Missing {
@@ -106,7 +99,7 @@ fn two_steps_at_most(clause: u8, step: &Step) -> Missing {
         7 => twice(snapshot_steps(&step.store)),
         _ => return missing(clause, step),
     };
-    wanted_by(step, &links)
+    missing_before(step, &links)
 }
 
 fn without_readers(clause: u8, step: &Step) -> Missing {
@@ -126,7 +119,7 @@ fn without_readers(clause: u8, step: &Step) -> Missing {
         7 => then_maybe(&union(&[so, wr, ww]), &rw),
         _ => return missing(clause, step),
     };
-    wanted_by(step, &one_or_more(&steps))
+    missing_before(step, &one_or_more(&steps))
 }
 
 fn held_links_only(clause: u8, step: &Step) -> Missing {
@@ -140,16 +133,11 @@ fn held_links_only(clause: u8, step: &Step) -> Missing {
         .into_iter()
         .filter(|link| held.contains(&link.1))
         .collect();
-    wanted_by(step, &one_or_more(&steps))
+    missing_before(step, &one_or_more(&steps))
 }
 
 fn six_for_seven(clause: u8, step: &Step) -> Missing {
-    with_paths(
-        clause,
-        step,
-        |store| one_or_more(&snapshot_steps(store)),
-        |store| one_or_more(&prefix_steps(store)),
-    )
+    with_paths(clause, step, snapshot_paths, prefix_paths)
 }
 
 fn without_rw(clause: u8, step: &Step) -> Missing {
@@ -159,12 +147,7 @@ fn without_rw(clause: u8, step: &Step) -> Missing {
 
 fn rw_anywhere(clause: u8, step: &Step) -> Missing {
     let seven = |store: &Store| one_or_more(&dependencies(store));
-    with_paths(
-        clause,
-        step,
-        |store| one_or_more(&prefix_steps(store)),
-        seven,
-    )
+    with_paths(clause, step, prefix_paths, seven)
 }
 
 fn rw_before(clause: u8, step: &Step) -> Missing {
@@ -172,12 +155,7 @@ fn rw_before(clause: u8, step: &Step) -> Missing {
         let others = union(&[so(store), wr(store), ww(store)]);
         one_or_more(&union(&[others.clone(), compose(&rw(store), &others)]))
     };
-    with_paths(
-        clause,
-        step,
-        |store| one_or_more(&prefix_steps(store)),
-        seven,
-    )
+    with_paths(clause, step, prefix_paths, seven)
 }
 
 fn store_after(clause: u8, step: &Step) -> Missing {
@@ -196,7 +174,7 @@ fn first_t_only(clause: u8, step: &Step) -> Missing {
             .into_iter()
             .filter(|link| link.1 == t)
             .collect();
-        if let Some(missing) = wanted_by(step, &links) {
+        if let Some(missing) = missing_before(step, &links) {
             return Some(missing);
         }
     }
@@ -209,7 +187,7 @@ fn next_in_session_only(clause: u8, step: &Step) -> Missing {
     }
     let so = so(&step.store);
     let further = compose(&so, &so);
-    wanted_by(step, &so.difference(&further).copied().collect())
+    missing_before(step, &so.difference(&further).copied().collect())
 }
 
 fn reads_of_t_only(clause: u8, step: &Step) -> Missing {
@@ -227,7 +205,7 @@ fn all_of_a_read_writer(clause: u8, step: &Step) -> Missing {
         return missing(clause, step);
     }
     let (so, wr) = (so(&step.store), wr(&step.store));
-    wanted_by(step, &union(&[wr.clone(), compose(&wr, &so)]))
+    missing_before(step, &union(&[wr.clone(), compose(&wr, &so)]))
 }
 
 fn keys_read_too(clause: u8, step: &Step) -> Missing {

@@ -1,20 +1,21 @@
 //! The proved judge against the model on files that are spoiled in every way of
 //! one sort: each truncation, each length field with each of many lies, each
-//! bit flipped. The files are those of the bench and generated ones.
+//! bit flipped. The files are example traces and generated ones.
 
-use model::beside::{compare, LONG};
+use model::beside::compare;
+use model::buffer::LONG;
 use model::files::files;
-use model::generate::{exactly_full, taken_case, with_true_length};
+use model::generate::{exactly_full, record_places, taken_case};
 use model::outcome;
 use model::random::Random;
-use model::trace::encode;
+use model::trace::{encode, with_true_length};
 use std::collections::BTreeMap;
 
-/// The bench's files, and so many taken traces of at most so many bytes.
+/// The example traces, and so many taken traces of at most so many bytes.
 fn some_files(number: usize, bytes: usize) -> Vec<(String, Vec<u8>)> {
     let mut some: Vec<(String, Vec<u8>)> = files()
         .into_iter()
-        .map(|(name, bench)| (name.to_string(), bench.bytes))
+        .map(|(name, example)| (name.to_string(), example.bytes))
         .filter(|(_, file)| file.len() <= bytes)
         .collect();
     let generated = (0..)
@@ -31,39 +32,23 @@ fn some_files(number: usize, bytes: usize) -> Vec<(String, Vec<u8>)> {
 
 /// Counts the answers by their codes.
 #[derive(Default)]
-struct Codes(BTreeMap<u64, usize>);
+struct Codes(BTreeMap<u8, usize>);
 
 impl Codes {
     /// Compares the answers for one spoiled file.
     fn spoiled(&mut self, name: &str, file: &[u8]) {
         let outcome = outcome(file);
         compare(name, file, &outcome, 0);
-        compare(name, file, &outcome, LONG);
-        let code = outcome.err().map_or(0, |refusal| refusal.code.into());
+        let code = compare(name, file, &outcome, LONG).code();
         *self.0.entry(code).or_default() += 1;
     }
 
-    /// Prints the counts; fails if one of these codes was never met, or if a
-    /// file was judged and 0 is not among them.
-    fn met(&self, spoiled: &str, codes: &[u64]) {
+    /// Prints the counts; fails unless just these codes were met.
+    fn met(&self, spoiled: &str, codes: &[u8]) {
         println!("{spoiled}, files by code: {:?}", self.0);
-        let judged = self.0.contains_key(&0);
-        assert!(!judged || codes.contains(&0), "a file was judged");
-        for code in codes {
-            assert!(self.0.contains_key(code), "code {code} was never met");
-        }
+        let met: Vec<u8> = self.0.keys().copied().collect();
+        assert_eq!(met, codes, "the codes met");
     }
-}
-
-/// The places of the records after the header, and the end of the file.
-fn places(file: &[u8]) -> Vec<usize> {
-    let mut places = vec![12];
-    let mut at = 12;
-    while at + 2 <= file.len() {
-        at += usize::from(u16::from_le_bytes([file[at], file[at + 1]])).max(1);
-        places.push(at.min(file.len()));
-    }
-    places
 }
 
 #[test]
@@ -79,7 +64,7 @@ fn every_truncation() {
             }
         }
     }
-    codes.met("truncations", &[1, 3]);
+    codes.met("truncations", &[1, 3, 4]);
 }
 
 /// Cut between two records, with the count and the length of what is left.
@@ -87,13 +72,13 @@ fn every_truncation() {
 fn every_number_of_records() {
     let mut codes = Codes::default();
     for (name, file) in some_files(150, 2_000) {
-        for (count, place) in places(&file).into_iter().enumerate() {
+        for (count, place) in record_places(&file).into_iter().enumerate() {
             let mut cut = file[..place].to_vec();
             cut[10..12].copy_from_slice(&(count as u16).to_le_bytes());
             codes.spoiled(&format!("{name}, {count} records"), &with_true_length(cut));
         }
     }
-    codes.met("first records", &[0, 8, 9, 11, 13]);
+    codes.met("first records", &[0, 3, 4, 8, 9, 11, 13]);
 }
 
 /// A file of the greatest length, cut at every 101st byte.
@@ -115,7 +100,7 @@ fn truncations_of_a_full_file() {
 /// and the bytes of each.
 fn length_fields(file: &[u8]) -> Vec<(usize, usize)> {
     let mut fields = vec![(0, 4), (4, 2), (10, 2)];
-    for place in places(file) {
+    for place in record_places(file) {
         if place + 6 <= file.len() {
             fields.push((place, 2));
             fields.push((place + 5, 1));
@@ -141,7 +126,7 @@ fn lying_lengths() {
             }
         }
     }
-    codes.met("lying lengths", &[1, 2, 3, 5, 7]);
+    codes.met("lying lengths", &[1, 2, 3, 4, 5, 7]);
 }
 
 /// Numbers near to a number, and some far from it.
@@ -159,7 +144,7 @@ fn lying_numbers_of_operations() {
     let mut codes = Codes::default();
     for (name, file) in some_files(60, 1_000) {
         let keys = usize::from(file[8]);
-        for place in places(&file) {
+        for place in record_places(&file) {
             if place + 10 > file.len() || file[place + 2] != 3 {
                 continue;
             }
@@ -175,7 +160,7 @@ fn lying_numbers_of_operations() {
             }
         }
     }
-    codes.met("lying numbers of operations", &[3, 4, 5, 7]);
+    codes.met("lying numbers of operations", &[1, 3, 4, 5, 7]);
 }
 
 #[test]

@@ -1,40 +1,35 @@
 //! The program `judge` where its input or its output fails, is late or is cut:
 //! a failure gets a line on standard error and no report.
 
-use model::bench_traces::trace_b;
-use model::files::{at, report_of};
+use model::example_traces::trace_b;
+use model::files::{at, program, report_of};
 use model::trace::encode;
 use std::fs::{self, File, OpenOptions};
 use std::io::Write;
 use std::os::fd::OwnedFd;
 use std::os::unix::net::UnixStream;
 use std::path::PathBuf;
-use std::process::{Command, Output, Stdio};
+use std::process::{Child, Command, Output, Stdio};
 use std::thread::sleep;
 use std::time::Duration;
-
-fn program() -> PathBuf {
-    let path = at("target/bin/judge");
-    assert!(
-        path.exists(),
-        "there is no target/bin/judge: `rt check judge` builds it"
-    );
-    path
-}
 
 /// The report that a whole input gets.
 fn due() -> String {
     report_of(&encode(&trace_b()))
 }
 
-/// What the program says where its streams are these.
-fn run(input: Stdio, output: Stdio) -> (String, String) {
-    let child = Command::new(program())
+/// The program, started with these streams.
+fn start(input: impl Into<Stdio>, output: impl Into<Stdio>) -> Child {
+    Command::new(program())
         .stdin(input)
         .stdout(output)
         .stderr(Stdio::piped())
         .spawn()
-        .expect("the program starts");
+        .expect("the program starts")
+}
+
+/// What it has written and told when it has ended.
+fn ended(child: Child) -> (String, String) {
     said(child.wait_with_output().expect("the program ends"))
 }
 
@@ -86,7 +81,7 @@ fn a_full_device() {
         .write(true)
         .open("/dev/full")
         .expect("a device that is full");
-    let (_, told) = run(lost_update().into(), full.into());
+    let (_, told) = ended(start(lost_update(), full));
     assert_eq!(told, "standard output: No space left on device\n");
 }
 
@@ -124,15 +119,9 @@ fn late(mut to: impl Write) {
 
 #[test]
 fn a_late_writer() {
-    let mut child = Command::new(program())
-        .stdin(Stdio::piped())
-        .stdout(Stdio::piped())
-        .stderr(Stdio::piped())
-        .spawn()
-        .expect("the program starts");
+    let mut child = start(Stdio::piped(), Stdio::piped());
     late(child.stdin.take().expect("it is piped"));
-    let output = child.wait_with_output().expect("the program ends");
-    assert_eq!(said(output), (due(), String::new()));
+    assert_eq!(ended(child), (due(), String::new()));
 }
 
 /// An input that does not wait: a read finds nothing ready and fails, until
@@ -140,14 +129,10 @@ fn a_late_writer() {
 #[test]
 fn an_input_that_is_not_ready() {
     let (ours, theirs) = UnixStream::pair().expect("two ends");
-    theirs.set_nonblocking(true).expect("an end that does not wait");
-    let child = Command::new(program())
-        .stdin(OwnedFd::from(theirs))
-        .stdout(Stdio::piped())
-        .stderr(Stdio::piped())
-        .spawn()
-        .expect("the program starts");
+    theirs
+        .set_nonblocking(true)
+        .expect("an end that does not wait");
+    let child = start(OwnedFd::from(theirs), Stdio::piped());
     late(ours);
-    let output = child.wait_with_output().expect("the program ends");
-    assert_eq!(said(output), (due(), String::new()));
+    assert_eq!(ended(child), (due(), String::new()));
 }

@@ -3,9 +3,10 @@
 
 use super::taken::{build, Style};
 use super::Expected;
+use crate::form::u16_at;
 use crate::random::Random;
 use crate::store::{Key, Version, View};
-use crate::trace::{encode, Record, Trace};
+use crate::trace::{encode, with_true_length, Record, Trace};
 use crate::Refusal;
 
 /// One spoiled file: in which way, its bytes, and what is known of it.
@@ -39,11 +40,15 @@ fn small_trace(random: &mut Random) -> Trace {
     }
 }
 
-/// The first field says how long the file is, which has that field whole.
-pub fn with_true_length(mut file: Vec<u8>) -> Vec<u8> {
-    let length = file.len() as u32;
-    file[..4].copy_from_slice(&length.to_le_bytes());
-    file
+/// The places of the records after the header, and the end of the file.
+pub fn record_places(file: &[u8]) -> Vec<usize> {
+    let mut places = vec![12];
+    let mut at = 12;
+    while at + 2 <= file.len() {
+        at += usize::from(u16_at(file, at)).max(1);
+        places.push(at.min(file.len()));
+    }
+    places
 }
 
 /// A u16 somewhere is another one; more often a length, kind or count.
@@ -51,17 +56,17 @@ fn lying(random: &mut Random) -> Vec<u8> {
     let trace = small_trace(random);
     let mut file = encode(&trace);
     let mut fields = vec![0, 2, 4, 6, 8, 10];
-    let mut at = 12;
-    while at < file.len() {
-        fields.extend([at, at + 2, at + 4]);
-        at += u16::from_le_bytes([file[at], file[at + 1]]) as usize;
+    for at in record_places(&file) {
+        if at < file.len() {
+            fields.extend([at, at + 2, at + 4]);
+        }
     }
     for _ in 0..random.between(1, 2) {
         let at = match random.below(3) {
             0 => random.below(file.len() / 2) * 2,
             _ => random.pick(&fields),
         };
-        let old = u16::from_le_bytes([file[at], file[at + 1]]);
+        let old = u16_at(&file, at);
         let change: u16 = random.pick(&[1, 2, 4, 8, 16, 256, 1 << 15]);
         let new = if random.percent(50) {
             old.wrapping_add(change)

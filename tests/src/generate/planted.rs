@@ -1,11 +1,12 @@
 //! Files with faults planted on purpose: one of the codes 1 to 14 at some
 //! record of a taken trace, or several codes that compete in one file.
 
-use super::taken::{build, Built, Numbering, Style};
+use super::taken::{build, Built, Numbering, State, Style};
 use super::Expected;
+use crate::form::u16_at;
 use crate::random::Random;
 use crate::store::{newest, writers_in, Author, Key, Store, Version, View, OPENING};
-use crate::trace::{header_bytes, record_bytes, OperationKind, Record, Trace};
+use crate::trace::{header_bytes, record_bytes, Operation, OperationKind, Record, Trace};
 use crate::Refusal;
 use std::collections::BTreeSet;
 
@@ -127,82 +128,111 @@ fn plant_meaning(
             candidates.push(number);
         }
     }
-    let number = choose(random, &candidates, near)?;
-    let state = &built.states[number - 1];
-    let named = |key: Key, version: Version| Refusal {
+    let record = choose(random, &candidates, near)?;
+    let state = &built.states[record - 1];
+    let (key, version) = match &mut trace.records[record - 1] {
+        Record::Shift { client, view } => {
+            plant_in_view(random, &state.store, &state.views[*client], view, code)?
+        }
+        commit => plant_in_commit(random, state, commit, code)?,
+    };
+    Some(Refusal {
         code,
-        record: number,
+        record,
         key: key.0,
         version: version.0,
+    })
+}
+
+/// Plants one of the codes 10 to 12 in a view that comes after an old one;
+/// answers the key and the version that it names.
+fn plant_in_view(
+    random: &mut Random,
+    store: &Store,
+    old: &View,
+    view: &mut View,
+    code: u8,
+) -> Option<(Key, Version)> {
+    match code {
+        10 => Some((spoil_masks(random, store, view)?, Version(0))),
+        11 => split_writers(random, store, view),
+        12 => lose_writers(random, store, old, view),
+        _ => None,
+    }
+}
+
+/// Plants one of the codes 9 to 14, but for 12, in a commit.
+fn plant_in_commit(
+    random: &mut Random,
+    state: &State,
+    commit: &mut Record,
+    code: u8,
+) -> Option<(Key, Version)> {
+    let Record::Commit {
+        client,
+        session,
+        operations,
+        after,
+    } = commit
+    else {
+        return None;
     };
-    match &mut trace.records[number - 1] {
-        Record::Shift { client, view } => {
-            let old = &state.views[*client];
-            match code {
-                10 => Some(named(spoil_masks(random, &state.store, view)?, Version(0))),
-                11 => {
-                    let (key, version) = split_writers(random, &state.store, view)?;
-                    Some(named(key, version))
-                }
-                12 => {
-                    let mut writers = writers_in(&state.store, old);
-                    writers.remove(&OPENING);
-                    let mut lost = View::new();
-                    for writer in some_of(random, writers.into_iter().collect()) {
-                        lost.extend(state.store.written_by(writer));
-                    }
-                    view.retain(|held| !lost.contains(held));
-                    let &(key, version) = lost.first()?;
-                    Some(named(key, version))
-                }
-                _ => None,
-            }
+    let u = &state.views[*client];
+    match code {
+        9 => {
+            let largest = *state.store.sessions_of(*client).last()?;
+            *session = random.pick(&[largest, largest / 2, 0]);
+            Some((Key(0), Version(0)))
         }
-        Record::Commit {
-            client,
-            session,
-            operations,
-            after,
-        } => {
-            let u = &state.views[*client];
+        13 => {
+            let key = spoil_reads(random, operations)?;
+            Some((key, newest(u, key)))
+        }
+        14 => {
+            let touched = operations.iter().map(|operation| operation.key).collect();
+            let key = change_elsewhere(random, &state.store, &touched, after)?;
+            Some((key, Version(0)))
+        }
+        _ => {
             let author = Author {
                 client: *client,
                 session: *session,
             };
             let store_after = state.store.with_commit(author, operations, u);
-            match code {
-                9 => {
-                    let largest = *state.store.sessions_of(*client).last()?;
-                    *session = random.pick(&[largest, largest / 2, 0]);
-                    Some(Refusal::at(9, number))
-                }
-                10 => Some(named(spoil_masks(random, &store_after, after)?, Version(0))),
-                11 => {
-                    let (key, version) = split_writers(random, &store_after, after)?;
-                    Some(named(key, version))
-                }
-                13 => {
-                    let reads: Vec<usize> = (0..operations.len())
-                        .filter(|&index| operations[index].kind == OperationKind::Read)
-                        .collect();
-                    let wrong = some_of(random, reads);
-                    for &index in &wrong {
-                        let change = random.pick(&[1, 2, 256, 1 << 31, u32::MAX]);
-                        operations[index].value = operations[index].value.wrapping_add(change);
-                    }
-                    let key = wrong.iter().map(|&index| operations[index].key).min()?;
-                    Some(named(key, newest(u, key)))
-                }
-                14 => {
-                    let touched: BTreeSet<Key> =
-                        operations.iter().map(|operation| operation.key).collect();
-                    let key = change_elsewhere(random, &state.store, &touched, after)?;
-                    Some(named(key, Version(0)))
-                }
-                _ => None,
-            }
+            plant_in_view(random, &store_after, u, after, code)
         }
     }
+}
+
+/// Gives some reads another value; answers the least of their keys.
+fn spoil_reads(random: &mut Random, operations: &mut [Operation]) -> Option<Key> {
+    let reads: Vec<usize> = (0..operations.len())
+        .filter(|&index| operations[index].kind == OperationKind::Read)
+        .collect();
+    let wrong = some_of(random, reads);
+    for &index in &wrong {
+        let change = random.pick(&[1, 2, 256, 1 << 31, u32::MAX]);
+        operations[index].value = operations[index].value.wrapping_add(change);
+    }
+    wrong.iter().map(|&index| operations[index].key).min()
+}
+
+/// Takes some writers out of a view that the old one holds; answers the least
+/// of their versions.
+fn lose_writers(
+    random: &mut Random,
+    store: &Store,
+    old: &View,
+    view: &mut View,
+) -> Option<(Key, Version)> {
+    let mut writers = writers_in(store, old);
+    writers.remove(&OPENING);
+    let mut lost = View::new();
+    for writer in some_of(random, writers.into_iter().collect()) {
+        lost.extend(store.written_by(writer));
+    }
+    view.retain(|held| !lost.contains(held));
+    lost.first().copied()
 }
 
 /// Copies a commit of a trace that has 63.
@@ -346,7 +376,7 @@ impl Raw {
     }
 
     fn count(&self) -> usize {
-        u16::from_le_bytes([self.header[6], self.header[7]]) as usize
+        u16_at(&self.header, 6) as usize
     }
 
     fn set_count(&mut self, count: usize) {
@@ -500,7 +530,7 @@ fn plant_wrong_record_length(
         }
         _ => {
             let record = &mut raw.records[number - 1];
-            let right = u16::from_le_bytes([record[0], record[1]]);
+            let right = u16_at(record, 0);
             let wrong = [
                 0,
                 4,

@@ -150,24 +150,6 @@ impl Style {
             5..=79 => random.between(2, 5),
             _ => random.between(6, Store::MAX_CLIENTS),
         };
-        use Rule::*;
-        let keeping: &[&[Rule]] = &[
-            &[],
-            &[Sessions],
-            &[Reads],
-            &[Sessions, Reads],
-            &[Written],
-            &[Sessions, Written],
-            &[Reads, Written],
-            &[Sessions, Reads, Written],
-            &[Everything],
-            &[Prefix],
-            &[Snapshot],
-            &[Prefix, Written],
-            &[Snapshot, Written],
-        ];
-        // Paths over many commits are slow to find.
-        let keeping = if commits > 30 { &keeping[..9] } else { keeping };
         Style {
             keys,
             clients,
@@ -180,7 +162,7 @@ impl Style {
                 2 => Seeing::UpToSome,
                 _ => Seeing::Each(random.pick(&[5, 15, 30, 50, 80])),
             },
-            keeping: random.pick(keeping).to_vec(),
+            keeping: some_rules(random, commits),
             lapses: random.pick(&[0, 0, 0, 5, 20]),
             hides_own: random.pick(&[0, 0, 0, 5, 40]),
             loses: random.pick(&[0, 0, 0, 3, 30]),
@@ -193,6 +175,29 @@ impl Style {
             idle: random.pick(&[0, 0, 10, 40]),
         }
     }
+}
+
+/// Rules for a trace of so many commits.
+fn some_rules(random: &mut Random, commits: usize) -> Vec<Rule> {
+    use Rule::*;
+    let rules: &[&[Rule]] = &[
+        &[],
+        &[Sessions],
+        &[Reads],
+        &[Sessions, Reads],
+        &[Written],
+        &[Sessions, Written],
+        &[Reads, Written],
+        &[Sessions, Reads, Written],
+        &[Everything],
+        &[Prefix],
+        &[Snapshot],
+        &[Prefix, Written],
+        &[Snapshot, Written],
+    ];
+    // Paths over many commits are slow to find.
+    let rules = if commits > 30 { &rules[..9] } else { rules };
+    random.pick(rules).to_vec()
 }
 
 /// What a record meets: the store and each client's view.
@@ -242,113 +247,11 @@ enum Link {
 /// that holds the last commit and what some rule wants with it; whether it
 /// must hold the first is what the clauses are about.
 pub fn build_path(random: &mut Random) -> Built {
-    use Link::*;
-    let kinds = random.pick(&[[So, Wr, Ww, Rw], [So, Wr, Rw, Rw], [Wr, Ww, Rw, Rw]]);
-    let links: Vec<Link> = (0..random.between(1, 5))
-        .map(|_| random.pick(&kinds))
-        .collect();
-    let last = links.len();
-
-    // One key for each link, one for a write of the first commit and one for
-    // a write of the last; now and then a key is used twice.
-    let keys = last + 2;
-    let mut labels: Vec<usize> = (0..keys).collect();
-    for place in 0..keys {
-        labels.swap(place, random.below(keys));
-        if random.percent(5) {
-            labels[place] = labels[0];
-        }
-    }
-    let label = |place: usize| Key(labels[place]);
-
-    // A client of its own for each commit, but for SO.
-    let mut clients = vec![0];
-    for (place, link) in links.iter().enumerate() {
-        let client = match link {
-            So => clients[place],
-            _ if random.percent(10) => random.pick(&clients),
-            _ => place + 1,
-        };
-        clients.push(client);
-    }
-    let observer = last + 1;
-
-    let mut accesses: Vec<BTreeSet<(Key, OperationKind)>> = vec![BTreeSet::new(); last + 1];
-    for (place, link) in links.iter().enumerate() {
-        let (from, to) = match link {
-            So => continue,
-            Wr => (OperationKind::Write, OperationKind::Read),
-            Ww => (OperationKind::Write, OperationKind::Write),
-            Rw => (OperationKind::Read, OperationKind::Write),
-        };
-        accesses[place].insert((label(place), from));
-        accesses[place + 1].insert((label(place), to));
-    }
-    accesses[0].insert((label(last), OperationKind::Write));
-    accesses[last].insert((label(last + 1), OperationKind::Write));
-    for accesses in &mut accesses {
-        if accesses.is_empty() {
-            // Between two SO links.
-            accesses.insert((Key(random.below(keys)), OperationKind::Read));
-        }
-    }
-
-    // RW alone says nothing of which commit comes first.
-    let mut chains: Vec<Vec<usize>> = vec![vec![0]];
-    for place in 1..=last {
-        if links[place - 1] == Rw {
-            chains.push(Vec::new());
-        }
-        chains.last_mut().expect("there is one").push(place);
-    }
-
-    let keeping = random.pick(&[
-        vec![],
-        vec![Rule::Written],
-        vec![Rule::Sessions, Rule::Reads, Rule::Written],
-        vec![Rule::Prefix],
-        vec![Rule::Snapshot, Rule::Written],
-        vec![Rule::Snapshot, Rule::Written],
-    ]);
+    let path = Path::random(random);
+    let (keys, observer) = (path.keys.len(), path.links.len() + 1);
     let mut builder = Builder::new(keys, observer + 1);
-    let mut numbers = vec![OPENING; last + 1];
-    while !chains.is_empty() {
-        let chosen = random.below(chains.len());
-        let place = chains[chosen].remove(0);
-        if chains[chosen].is_empty() {
-            chains.swap_remove(chosen);
-        }
-        let mut writers = builder.seen(clients[place]);
-        if place > 0 && links[place - 1] == Wr {
-            writers.insert(numbers[place - 1]);
-        }
-        numbers[place] = builder.next_commit();
-        builder.plain_commit(random, clients[place], &accesses[place], &keeping, writers);
-    }
-
-    let nearly = random.pick(&[
-        vec![],
-        vec![Rule::Sessions],
-        vec![Rule::Sessions, Rule::Reads],
-        vec![Rule::OneStepOfPrefix],
-        vec![Rule::OneStepOfSnapshot],
-        vec![Rule::PrefixOfWriters],
-        vec![Rule::SnapshotOfWriters],
-        vec![Rule::Prefix],
-        vec![Rule::WithoutRw],
-    ]);
-    let observed = match random.below(3) {
-        0 => BTreeSet::new(),
-        1 => BTreeSet::from([(label(last + 1), OperationKind::Read)]),
-        _ => BTreeSet::from([(Key(random.below(keys)), OperationKind::Read)]),
-    };
-    builder.plain_commit(
-        random,
-        observer,
-        &observed,
-        &nearly,
-        BTreeSet::from([numbers[last]]),
-    );
+    let last = path.commits(random, &mut builder);
+    path.observed(random, &mut builder, observer, last);
 
     // And something more, now and then.
     if random.percent(30) {
@@ -363,6 +266,156 @@ pub fn build_path(random: &mut Random) -> Built {
         }
     }
     builder.built()
+}
+
+/// A path of links, and for each commit on it the client and the accesses.
+struct Path {
+    links: Vec<Link>,
+    /// One key for each link, one for a write of the first commit and one for
+    /// a write of the last; now and then a key is used twice.
+    keys: Vec<Key>,
+    clients: Vec<usize>,
+    accesses: Vec<BTreeSet<(Key, OperationKind)>>,
+}
+
+impl Path {
+    fn random(random: &mut Random) -> Path {
+        use Link::*;
+        let kinds = random.pick(&[[So, Wr, Ww, Rw], [So, Wr, Rw, Rw], [Wr, Ww, Rw, Rw]]);
+        let links: Vec<Link> = (0..random.between(1, 5))
+            .map(|_| random.pick(&kinds))
+            .collect();
+        let mut keys: Vec<Key> = (0..links.len() + 2).map(Key).collect();
+        for place in 0..keys.len() {
+            keys.swap(place, random.below(links.len() + 2));
+            if random.percent(5) {
+                keys[place] = keys[0];
+            }
+        }
+        let clients = clients_along(random, &links);
+        let accesses = accesses_along(random, &links, &keys);
+        Path {
+            links,
+            keys,
+            clients,
+            accesses,
+        }
+    }
+
+    /// The commits in parts of which each is in order: RW alone says nothing of
+    /// which commit comes first.
+    fn chains(&self) -> Vec<Vec<usize>> {
+        let mut chains: Vec<Vec<usize>> = vec![vec![0]];
+        for (place, link) in self.links.iter().enumerate() {
+            if *link == Link::Rw {
+                chains.push(Vec::new());
+            }
+            chains.last_mut().expect("there is one").push(place + 1);
+        }
+        chains
+    }
+
+    /// Makes the commits of the path; answers the number of the last.
+    fn commits(&self, random: &mut Random, builder: &mut Builder) -> CommitNumber {
+        let mut chains = self.chains();
+        let keeping = random.pick(&[
+            vec![],
+            vec![Rule::Written],
+            vec![Rule::Sessions, Rule::Reads, Rule::Written],
+            vec![Rule::Prefix],
+            vec![Rule::Snapshot, Rule::Written],
+            vec![Rule::Snapshot, Rule::Written],
+        ]);
+        let mut numbers = vec![OPENING; self.clients.len()];
+        while !chains.is_empty() {
+            let chosen = random.below(chains.len());
+            let place = chains[chosen].remove(0);
+            if chains[chosen].is_empty() {
+                chains.swap_remove(chosen);
+            }
+            let client = self.clients[place];
+            let mut writers = builder.seen(client);
+            if place > 0 && self.links[place - 1] == Link::Wr {
+                writers.insert(numbers[place - 1]);
+            }
+            numbers[place] = builder.next_commit();
+            builder.plain_commit(random, client, &self.accesses[place], &keeping, writers);
+        }
+        numbers[self.links.len()]
+    }
+
+    /// A commit from a view that holds the last one of the path.
+    fn observed(
+        &self,
+        random: &mut Random,
+        builder: &mut Builder,
+        observer: usize,
+        last: CommitNumber,
+    ) {
+        let nearly = random.pick(&[
+            vec![],
+            vec![Rule::Sessions],
+            vec![Rule::Sessions, Rule::Reads],
+            vec![Rule::OneStepOfPrefix],
+            vec![Rule::OneStepOfSnapshot],
+            vec![Rule::PrefixOfWriters],
+            vec![Rule::SnapshotOfWriters],
+            vec![Rule::Prefix],
+            vec![Rule::WithoutRw],
+        ]);
+        let read = match random.below(3) {
+            0 => None,
+            1 => self.keys.last().copied(),
+            _ => Some(Key(random.below(self.keys.len()))),
+        };
+        let accesses = read.map(|key| (key, OperationKind::Read));
+        let accesses = accesses.into_iter().collect();
+        builder.plain_commit(random, observer, &accesses, &nearly, BTreeSet::from([last]));
+    }
+}
+
+/// A client of its own for each commit of a path, but for SO.
+fn clients_along(random: &mut Random, links: &[Link]) -> Vec<usize> {
+    let mut clients = vec![0];
+    for (place, link) in links.iter().enumerate() {
+        let client = match link {
+            Link::So => clients[place],
+            _ if random.percent(10) => random.pick(&clients),
+            _ => place + 1,
+        };
+        clients.push(client);
+    }
+    clients
+}
+
+/// The accesses that make the links of a path, and a write of its first commit
+/// and of its last.
+fn accesses_along(
+    random: &mut Random,
+    links: &[Link],
+    keys: &[Key],
+) -> Vec<BTreeSet<(Key, OperationKind)>> {
+    let last = links.len();
+    let mut accesses = vec![BTreeSet::new(); last + 1];
+    for (place, link) in links.iter().enumerate() {
+        let (from, to) = match link {
+            Link::So => continue,
+            Link::Wr => (OperationKind::Write, OperationKind::Read),
+            Link::Ww => (OperationKind::Write, OperationKind::Write),
+            Link::Rw => (OperationKind::Read, OperationKind::Write),
+        };
+        accesses[place].insert((keys[place], from));
+        accesses[place + 1].insert((keys[place], to));
+    }
+    accesses[0].insert((keys[last], OperationKind::Write));
+    accesses[last].insert((keys[last + 1], OperationKind::Write));
+    for accesses in &mut accesses {
+        if accesses.is_empty() {
+            // Between two SO links.
+            accesses.insert((Key(random.below(keys.len())), OperationKind::Read));
+        }
+    }
+    accesses
 }
 
 /// 63 commits of 32 operations by 16 clients on 16 keys, and their shifts.

@@ -1,13 +1,15 @@
-//! Section "Traces from the bench": traces A to K with the answers that the
-//! paper gives, or that follow from it where it says "the rest".
+//! Section "Traces from the bench": the example traces A to K with the
+//! answers that the paper gives, or that follow from it where it says "the rest".
 
-use crate::store::{Key, Store, Version, View};
-use crate::trace::{encode, Operation, Record, Trace};
+use crate::by_hand::{self, commit, read, shift};
+use crate::levels::place_of;
+use crate::store::Store;
+use crate::trace::{encode, with_true_length, Operation, Record, Trace};
 use crate::{Refusal, Verdict};
 
 /// One trace, or one variant of it. `bytes` is the file; it is the encoding of
 /// `trace` except where the paper cuts or spoils the file itself.
-pub struct BenchTrace {
+pub struct ExampleTrace {
     pub name: &'static str,
     pub trace: Trace,
     pub bytes: Vec<u8>,
@@ -22,13 +24,22 @@ pub enum Expected {
 }
 
 /// All of them in the paper's order.
-pub fn all() -> Vec<BenchTrace> {
-    let whole = |name, trace: Trace, expected| BenchTrace {
+pub fn all() -> Vec<ExampleTrace> {
+    a_to_g().into_iter().chain(h_to_k()).collect()
+}
+
+/// A file that is the encoding of its trace.
+fn whole(name: &'static str, trace: Trace, expected: Expected) -> ExampleTrace {
+    ExampleTrace {
         name,
         bytes: encode(&trace),
         trace,
         expected,
-    };
+    }
+}
+
+/// Those that get ten verdicts.
+fn a_to_g() -> Vec<ExampleTrace> {
     vec![
         whole("A", trace_a(), judged(&[])),
         whole(
@@ -86,6 +97,12 @@ pub fn all() -> Vec<BenchTrace> {
                 ("SER", refused(3, 5, 8, 0, 1)),
             ]),
         ),
+    ]
+}
+
+/// Those about codes.
+fn h_to_k() -> Vec<ExampleTrace> {
+    vec![
         whole("H", trace_h(), code(11, 2, 1, 1)),
         whole(
             "I, reads 1 from the opening store",
@@ -98,21 +115,21 @@ pub fn all() -> Vec<BenchTrace> {
             trace_i_empty(),
             judged(&[]),
         ),
-        BenchTrace {
+        ExampleTrace {
             name: "J, B cut to 79 bytes",
             trace: trace_b(),
             bytes: encode(&trace_b())[..79].to_vec(),
             expected: code(1, 0, 0, 0),
         },
-        BenchTrace {
+        ExampleTrace {
             name: "J, B cut to 79 bytes with first field 79",
             trace: trace_b(),
-            bytes: with_first_field(&encode(&trace_b())[..79]),
+            bytes: with_true_length(encode(&trace_b())[..79].to_vec()),
             expected: code(3, 2, 0, 0),
         },
         whole("K, 63 commits", trace_k(63), judged(&[])),
         whole("K, 64 commits", trace_k(64), code(8, 64, 0, 0)),
-        BenchTrace {
+        ExampleTrace {
             name: "K, a wrong read in record 1 and kind 9 in record 2",
             trace: trace_k_wrong_read(),
             bytes: with_kind_9_in_record_2(&trace_k_wrong_read()),
@@ -277,24 +294,11 @@ fn with_kind_9_in_record_2(trace: &Trace) -> Vec<u8> {
     bytes
 }
 
-fn with_first_field(file: &[u8]) -> Vec<u8> {
-    let mut bytes = file.to_vec();
-    bytes[..4].copy_from_slice(&(file.len() as u32).to_le_bytes());
-    bytes
-}
-
 /// Ten verdicts, accepted where none is given.
 fn judged(failures: &[(&str, Verdict)]) -> Expected {
     let mut verdicts = [Verdict::Accepted; 10];
     for (name, verdict) in failures {
-        let names = [
-            "MR", "MW", "RYW", "WFR", "CC", "UA", "PSI", "CP", "SI", "SER",
-        ];
-        let index = names
-            .iter()
-            .position(|known| known == name)
-            .expect("a level's name");
-        verdicts[index] = *verdict;
+        verdicts[place_of(name)] = *verdict;
     }
     Expected::Judged(verdicts)
 }
@@ -326,38 +330,7 @@ fn trace(keys: usize, clients: usize, records: Vec<Record>) -> Trace {
     }
 }
 
-fn shift(client: usize, held: &[&[usize]]) -> Record {
-    Record::Shift {
-        client,
-        view: view(held),
-    }
-}
-
-fn commit(client: usize, session: u32, operations: &[Operation], held: &[&[usize]]) -> Record {
-    Record::Commit {
-        client,
-        session,
-        operations: operations.to_vec(),
-        after: view(held),
-    }
-}
-
-fn read(key: usize, value: u32) -> Operation {
-    Operation::read(key, value)
-}
-
 /// Values written are 1.
 fn write(key: usize) -> Operation {
-    Operation::write(key, 1)
-}
-
-/// For each key the versions held.
-fn view(held: &[&[usize]]) -> View {
-    let mut view = View::new();
-    for (key, versions) in held.iter().enumerate() {
-        for &version in *versions {
-            view.insert((Key(key), Version(version)));
-        }
-    }
-    view
+    by_hand::write(key, 1)
 }

@@ -1,48 +1,39 @@
-//! The traces of the bench against the model.
+//! The example traces against the model.
 
-use model::bench_traces::{all, trace_a, trace_b, Expected};
-use model::trace::encode;
+use model::buffer::{pattern, untouched, LONG};
+use model::example_traces::{all, trace_a, trace_b, Expected};
+use model::trace::{encode, with_true_length};
 use model::{judge, report, Answer};
 
-const FILLER: u8 = 0xA5;
-
 #[test]
-fn all_bench_traces() {
-    for bench in all() {
-        let mut image = vec![FILLER; 20_000];
-        let answer = judge(&bench.bytes, &mut image);
-        match (answer, bench.expected) {
+fn all_example_traces() {
+    for example in all() {
+        let mut image = pattern(LONG);
+        let answer = judge(&example.bytes, &mut image);
+        match (answer, example.expected) {
             (Answer::Refused(refusal), Expected::Refused(expected)) => {
-                assert_eq!(refusal, expected, "trace {}", bench.name);
-                assert!(
-                    image.iter().all(|&byte| byte == FILLER),
-                    "trace {}",
-                    bench.name
-                );
+                assert_eq!(refusal, expected, "trace {}", example.name);
+                assert!(untouched(&image, 0), "trace {}", example.name);
             }
             (Answer::Judged(report), Expected::Judged(expected)) => {
-                assert_eq!(report.verdicts, expected, "trace {}", bench.name);
+                assert_eq!(report.verdicts, expected, "trace {}", example.name);
                 assert_eq!(
                     report.records,
-                    bench.trace.records.len(),
+                    example.trace.records.len(),
                     "trace {}",
-                    bench.name
+                    example.name
                 );
-                let rest = &image[report.image_len..];
-                assert!(
-                    rest.iter().all(|&byte| byte == FILLER),
-                    "trace {}",
-                    bench.name
-                );
+                let end = report.image_len;
+                assert!(untouched(&image, end), "trace {}", example.name);
             }
-            _ => panic!("trace {}: {answer:?}", bench.name),
+            _ => panic!("trace {}: {answer:?}", example.name),
         }
     }
 }
 
 #[test]
 fn image_of_a() {
-    let mut image = [FILLER; 30];
+    let mut image = pattern(30);
     let Answer::Judged(judged) = judge(&encode(&trace_a()), &mut image) else {
         panic!()
     };
@@ -53,15 +44,15 @@ fn image_of_a() {
     let mut expected = vec![28, 0, 0, 0, 1, 0, 0, 0];
     expected.extend([1, 0, 0, 0]);
     expected.extend([0; 16]);
-    expected.extend([FILLER, FILLER]);
-    assert_eq!(image.to_vec(), expected);
+    assert_eq!(image[..28], expected);
+    assert!(untouched(&image, 28));
 }
 
 #[test]
 fn image_of_b() {
     let file = encode(&trace_b());
     assert_eq!(file.len(), 80);
-    let mut image = [FILLER; 77];
+    let mut image = pattern(77);
     let Answer::Judged(judged) = judge(&file, &mut image) else {
         panic!()
     };
@@ -76,8 +67,8 @@ fn image_of_b() {
     expected.extend([0, 0, 0, 0, 0, 0, 0, 0, 6, 0, 0, 0, 0, 0, 0, 0]); // read by 1 and 2
     expected.extend([1, 0, 0, 0, 1, 0, 0, 0, 0, 0, 0, 0, 0, 0, 0, 0]);
     expected.extend([1, 0, 0, 0, 2, 0, 0, 0, 0, 0, 0, 0, 0, 0, 0, 0]);
-    expected.push(FILLER);
-    assert_eq!(image.to_vec(), expected);
+    assert_eq!(image[..76], expected);
+    assert!(untouched(&image, 76));
 }
 
 #[test]
@@ -110,27 +101,26 @@ fn report_of_a_refusal() {
 fn short_image_buffer() {
     let file = encode(&trace_b());
     for length in 0..76 {
-        let mut image = vec![FILLER; length];
+        let mut image = pattern(length);
         let Answer::Refused(refusal) = judge(&file, &mut image) else {
             panic!()
         };
         assert_eq!((refusal.code, refusal.record), (15, 0));
-        assert!(image.iter().all(|&byte| byte == FILLER));
+        assert!(untouched(&image, 0));
     }
 }
 
 #[test]
 fn every_cut_of_every_trace_is_answered() {
-    for bench in all() {
-        for length in 0..bench.bytes.len() {
-            let mut cut = bench.bytes[..length].to_vec();
+    for example in all() {
+        for length in 0..example.bytes.len() {
+            let cut = example.bytes[..length].to_vec();
             let Answer::Refused(refusal) = judge(&cut, &mut []) else {
                 panic!()
             };
             assert_eq!(refusal.code, 1);
             if length >= 12 {
-                cut[..4].copy_from_slice(&(length as u32).to_le_bytes());
-                let Answer::Refused(refusal) = judge(&cut, &mut []) else {
+                let Answer::Refused(refusal) = judge(&with_true_length(cut), &mut []) else {
                     panic!()
                 };
                 assert!([3, 4, 6, 7].contains(&refusal.code), "{refusal:?}");
