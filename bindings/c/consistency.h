@@ -1,4 +1,4 @@
-/* The proved calls on trace files, for callers in C on x86-64.
+/* The proved calls on trace files, for callers in C and C++ on x86-64.
  *
  *     rt staticlib consistency
  *     cc -I bindings/c YOUR.c target/staticlib/libconsistency.a
@@ -14,6 +14,10 @@
 
 #include <stddef.h>
 #include <stdint.h>
+
+#ifdef __cplusplus
+extern "C" {
+#endif
 
 /* The most bytes that a trace file may have; a longer one is code 1. */
 #define CONSISTENCY_LONGEST_FILE 65536
@@ -71,5 +75,9 @@ enum {
 size_t report_file(const uint8_t *file, size_t file_length,
                    uint8_t *image, size_t image_length,
                    uint8_t *text, size_t text_length);
+
+#ifdef __cplusplus
+}
+#endif
 
 #endif

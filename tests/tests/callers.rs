@@ -1,19 +1,20 @@
-//! The examples of a caller in Rust and of one in C: they compile, they say the
-//! same, and they stand in the README as they are. The header for C has the
-//! numbers of the crate for Rust.
+//! Callers in Rust, C and C++: the examples compile without a warning, they say
+//! what is due, and they stand in the README as they are. The header and the
+//! crate for Rust have the same numbers.
 
 mod common;
 
 use common::printed;
-use model::files::{at, files};
+use model::files::{at, files, report_of};
 use model::levels::LEVELS;
 use model::{judge, Answer, Verdict};
-use std::fs;
+use std::fs::{self, File, OpenOptions};
+use std::io::Write;
 use std::path::{Path, PathBuf};
-use std::process::Command;
+use std::process::{Command, Stdio};
 
-/// What an example must print for a file: whether it kept SI.
-fn due(file: &[u8]) -> String {
+/// What `keeps_si` must print for a file: whether it kept SI.
+fn keeps_si(file: &[u8]) -> String {
     match judge(file, &mut [0; 16_960]) {
         Answer::Refused(refusal) => {
             format!("code {} at record {}\n", refusal.code, refusal.record)
@@ -25,11 +26,46 @@ fn due(file: &[u8]) -> String {
     }
 }
 
-fn check(mut example: Command) {
-    for (name, bench) in files() {
-        let said = printed(&mut example, &bench.bytes, usize::MAX);
-        assert_eq!(said, due(&bench.bytes), "{name}");
+/// An example prints what is due for each file, ends on an input that does not,
+/// and takes no failure for an answer.
+fn check(example: &Path, due: fn(&[u8]) -> String) {
+    for (name, trace) in files() {
+        let said = printed(&mut Command::new(example), &trace.bytes, usize::MAX);
+        assert_eq!(said, due(&trace.bytes), "{name}");
     }
+    ends(example, &due(&[0; consistency::LONGEST_FILE + 1]));
+    let folder = File::open(at("examples")).expect("a folder");
+    fails(Command::new(example).stdin(folder));
+    let file = File::open(at("examples/B-lost-update")).expect("a trace file");
+    let full = OpenOptions::new().write(true).open("/dev/full");
+    fails(
+        Command::new(example)
+            .stdin(file)
+            .stdout(full.expect("a full device")),
+    );
+}
+
+/// It has an answer long before it has read all of 64 MiB.
+fn ends(example: &Path, due: &str) {
+    let mut child = Command::new(example)
+        .stdin(Stdio::piped())
+        .stdout(Stdio::piped())
+        .spawn()
+        .expect("the example starts");
+    let mut stdin = child.stdin.take().expect("it is piped");
+    let part = [0; 65_536];
+    let taken = (0..1024).take_while(|_| stdin.write_all(&part).is_ok());
+    assert!(taken.count() < 1024, "{} reads on", example.display());
+    drop(stdin);
+    let output = child.wait_with_output().expect("the example ends");
+    assert_eq!(String::from_utf8_lossy(&output.stdout), due);
+}
+
+/// It prints nothing, and its status says that it failed.
+fn fails(example: &mut Command) {
+    let output = example.output().expect("the example starts");
+    assert!(!output.status.success(), "{example:?}");
+    assert_eq!(String::from_utf8_lossy(&output.stdout), "", "{example:?}");
 }
 
 fn run(command: &mut Command) {
@@ -43,9 +79,34 @@ fn room() -> PathBuf {
     PathBuf::from(env!("CARGO_TARGET_TMPDIR"))
 }
 
+/// A compiler with these words, and with every warning an error.
+fn compiler(words: &str) -> Command {
+    let mut words = words.split(' ');
+    let mut compiler = Command::new(words.next().expect("the name of a compiler"));
+    compiler.args(words);
+    compiler.args(["-pedantic", "-Wall", "-Wextra", "-Werror", "-O1"]);
+    compiler.arg("-I").arg(at("bindings/c"));
+    compiler
+}
+
+/// The program of this name, compiled from a source with the library.
+fn compiled(name: &str, words: &str, source: &str) -> PathBuf {
+    let program = room().join(name);
+    run(compiler(words)
+        .arg("-o")
+        .arg(&program)
+        .arg(at(source))
+        .args(["-x", "none"])
+        .arg(at("target/staticlib/libconsistency.a")));
+    program
+}
+
 #[test]
 fn what_the_examples_must_say() {
-    let all: Vec<String> = files().iter().map(|(_, bench)| due(&bench.bytes)).collect();
+    let all: Vec<String> = files()
+        .iter()
+        .map(|(_, trace)| keeps_si(&trace.bytes))
+        .collect();
     assert_eq!(all[1], "no, see record 2\n");
     assert_eq!(all[3], "yes\n");
     assert_eq!(all[11], "code 1 at record 0\n");
@@ -58,41 +119,46 @@ fn from_rust() {
         .arg("--target-dir")
         .arg(room().join("rust"))
         .current_dir(at("bindings/rust")));
-    check(Command::new(room().join("rust/debug/examples/keeps_si")));
+    check(&room().join("rust/debug/examples/keeps_si"), keeps_si);
 }
 
 #[test]
 fn from_c() {
-    let program = room().join("keeps_si");
-    run(Command::new("cc")
-        .args([
-            "-std=c99",
-            "-pedantic",
-            "-Wall",
-            "-Wextra",
-            "-Werror",
-            "-O1",
-            "-o",
-        ])
-        .arg(&program)
-        .arg(at("bindings/c/keeps_si.c"))
-        .arg(at("target/staticlib/libconsistency.a")));
-    check(Command::new(program));
+    let program = compiled("keeps_si", "gcc -std=c99", "bindings/c/keeps_si.c");
+    check(&program, keeps_si);
 }
 
-fn text(path: &Path) -> String {
-    fs::read_to_string(path).unwrap_or_else(|error| panic!("{}: {error}", path.display()))
+/// The example in C is one in C++ too.
+#[test]
+fn from_cpp() {
+    let words = "g++ -std=c++11 -x c++";
+    let program = compiled("keeps_si_cpp", words, "bindings/c/keeps_si.c");
+    check(&program, keeps_si);
+    let program = compiled("print_report", words, "bindings/c/print_report.cc");
+    check(&program, report_of);
+}
+
+/// It needs nothing before it.
+#[test]
+fn the_header_alone() {
+    for words in ["gcc -std=c99 -x c", "g++ -std=c++11 -x c++"] {
+        let header = at("bindings/c/consistency.h");
+        run(compiler(words).arg("-fsyntax-only").arg(header));
+    }
+}
+
+fn text(path: &str) -> String {
+    fs::read_to_string(at(path)).unwrap_or_else(|error| panic!("{path}: {error}"))
 }
 
 #[test]
 fn the_readme_has_the_examples() {
-    let readme = text(&at("README.md"));
+    let readme = text("README.md");
     for path in [
         "bindings/rust/examples/keeps_si.rs",
         "bindings/c/keeps_si.c",
     ] {
-        let example = text(&at(path));
-        let indented: String = example
+        let indented: String = text(path)
             .lines()
             .map(|line| format!("    {line}\n"))
             .collect();
@@ -102,7 +168,7 @@ fn the_readme_has_the_examples() {
 
 #[test]
 fn the_numbers_of_the_header() {
-    let header = text(&at("bindings/c/consistency.h"));
+    let header = text("bindings/c/consistency.h");
     let has = |line: String| assert!(header.contains(&line), "{line}");
     let defines = |name: &str, number: usize| {
         has(format!("#define CONSISTENCY_{name} {number}\n"));
