@@ -1,6 +1,6 @@
 //! Callers in Rust, C and C++: the examples compile without a warning, they say
 //! what is due, and they stand in the README as they are. The header and the
-//! crate for Rust have the same numbers.
+//! crate for Rust have the same numbers and tables.
 
 mod common;
 
@@ -183,4 +183,74 @@ fn the_numbers_of_the_header() {
         .map(|place| format!("    CONSISTENCY_{} = {}", LEVELS[place].name, 4 + 4 * place))
         .collect();
     has(format!("enum {{\n{}\n}};\n", places.join(",\n")));
+}
+
+/// The rows of the table with this head, in Markdown or in a comment: cells
+/// between bars.
+fn table(path: &str, head: &[&str]) -> Vec<Vec<String>> {
+    let cells = |line: &str| -> Vec<String> {
+        let line = line.trim_start_matches([' ', '*', '/']);
+        let line = line.trim_end_matches("*/").trim_end();
+        let line = match line.strip_prefix('|') {
+            Some(inner) => inner.strip_suffix('|').unwrap_or(inner),
+            None => line,
+        };
+        line.split('|')
+            .map(|cell| cell.trim().to_string())
+            .collect()
+    };
+    let text = text(path);
+    let mut rows = text.lines().map(cells).skip_while(|row| row != head);
+    assert!(rows.next().is_some(), "{path} has no table {head:?}");
+    rows.skip(1)
+        .take_while(|row| row.len() == head.len())
+        .collect()
+}
+
+/// A table that the header and the crate for Rust both have.
+fn shared(path: &str, head: &[&str]) -> Vec<Vec<String>> {
+    let rows = table("bindings/c/consistency.h", head);
+    assert_eq!(rows, table(path, head), "{path}");
+    rows
+}
+
+#[test]
+fn the_table_of_codes() {
+    let codes = shared(
+        "bindings/rust/src/refusal.rs",
+        &["code", "refused since", "names"],
+    );
+    let long = table("docs/FORMAT.md", &["code", "when", "names", "what to do"]);
+    assert_eq!(long[0][..2], ["0", "judged"]);
+    assert_eq!(codes.len(), long.len() - 1);
+    for (code, long) in codes.iter().zip(&long[1..]) {
+        assert_eq!([&code[0], &code[2]], [&long[0], &long[2]]);
+    }
+}
+
+#[test]
+fn the_table_of_levels() {
+    let levels = shared(
+        "bindings/rust/src/judging.rs",
+        &["level", "name", "clauses"],
+    );
+    let long = table("docs/FORMAT.md", &["level", "clauses"]);
+    assert_eq!([levels.len(), long.len()], [LEVELS.len(); 2]);
+    for ((level, long), due) in levels.iter().zip(&long).zip(&LEVELS) {
+        assert_eq!(long[0], format!("{}, {}", level[0], level[1]));
+        assert_eq!(long[1], level[2]);
+        let clauses: Vec<String> = due.clauses.iter().map(u8::to_string).collect();
+        assert_eq!([due.name, &clauses.join(" ")], [&level[0], &level[2]]);
+    }
+}
+
+#[test]
+fn the_table_of_clauses() {
+    let clauses = shared("bindings/rust/src/judging.rs", &["clause", "wants"]);
+    let head = ["clause", "wants", "an example that fails it"];
+    let long = table("docs/FORMAT.md", &head);
+    assert_eq!(clauses.len(), long.len());
+    for (clause, long) in clauses.iter().zip(&long) {
+        assert!(long[0].starts_with(&format!("{}, ", clause[0])), "{long:?}");
+    }
 }

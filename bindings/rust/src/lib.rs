@@ -4,6 +4,10 @@
 //! are those of the proved crates below it. Nothing is asked of a caller: any
 //! bytes get an answer, and a buffer may have any length. A call keeps nothing
 //! and allocates nothing, so that several threads may call at once.
+//!
+//! [`Refusal`] has the table of codes, [`Verdicts`] that of levels and
+//! [`Verdict`] that of clauses. `docs/FORMAT.md` has the trace file, the image
+//! and the report, and the long form of the tables.
 
 mod archive;
 mod judging;
