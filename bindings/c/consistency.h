@@ -9,7 +9,10 @@
  * All places that a call is lent stay the caller's, who has them to read (`file`) and to write (the others) for as many elements
  * as the lengths say; they do not overlap, and none is null. A length may be 0, and any bytes may stand in a file. A file is never
  * written, and nothing is touched beyond what a call says that it writes. A call keeps nothing and allocates nothing: threads may
- * call at once, each with places of its own. */
+ * call at once, each with places of its own.
+ *
+ * A call takes no more stack than its CONSISTENCY_..._STACK says, in bytes. That has room for memcpy and memset, and for the loader where it
+ * looks these up at their first call; what a signal handler takes is not in it. */
 #ifndef CONSISTENCY_H
 #define CONSISTENCY_H
 
@@ -75,6 +78,7 @@ uint64_t judge_file(const uint8_t *file, size_t file_length,
                     uint64_t *words, size_t words_length);
 
 #define CONSISTENCY_JUDGE_WORDS 44
+#define CONSISTENCY_JUDGE_STACK 32768
 
 /* Where the four words of each level begin. A level fails at the first commit that fails one of its clauses, by the lowest of these:
  *
@@ -124,6 +128,8 @@ enum {
 size_t report_file(const uint8_t *file, size_t file_length,
                    uint8_t *image, size_t image_length,
                    uint8_t *text, size_t text_length);
+
+#define CONSISTENCY_REPORT_STACK 32768
 
 #ifdef __cplusplus
 }

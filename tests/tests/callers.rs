@@ -1,17 +1,22 @@
 //! Callers in Rust, C and C++: the examples compile without a warning, they say
 //! what is due, and they stand in the README as they are. The header and the
-//! crate for Rust have the same numbers and tables.
+//! crate for Rust have the same numbers and tables, and no call takes more
+//! stack than they say.
 
 mod common;
 
 use common::printed;
 use model::files::{at, files, report_of};
+use model::generate::{exactly_full, file, largest};
 use model::levels::LEVELS;
+use model::random::Random;
+use model::trace::encode;
 use model::{judge, Answer, Verdict};
 use std::fs::{self, File, OpenOptions};
 use std::io::Write;
 use std::path::{Path, PathBuf};
 use std::process::{Command, Stdio};
+use std::thread;
 
 /// What `keeps_si` must print for a file: whether it kept SI.
 fn keeps_si(file: &[u8]) -> String {
@@ -179,6 +184,8 @@ fn the_numbers_of_the_header() {
     defines("NO_ROOM", consistency::NO_ROOM as usize);
     defines("REFUSAL_WORDS", consistency::REFUSAL_WORDS);
     defines("JUDGE_WORDS", consistency::JUDGE_WORDS);
+    defines("JUDGE_STACK", consistency::JUDGE_STACK);
+    defines("REPORT_STACK", consistency::REPORT_STACK);
     let places: Vec<String> = (0..LEVELS.len())
         .map(|place| format!("    CONSISTENCY_{} = {}", LEVELS[place].name, 4 + 4 * place))
         .collect();
@@ -253,4 +260,64 @@ fn the_table_of_clauses() {
     for (clause, long) in clauses.iter().zip(&long) {
         assert!(long[0].starts_with(&format!("{}, ", clause[0])), "{long:?}");
     }
+}
+
+/// Files of all sorts, among them the largest and the fullest.
+fn all_sorts() -> Vec<Vec<u8>> {
+    let examples = files().into_iter().map(|(_, trace)| trace.bytes);
+    let large = (0..4).flat_map(|seed| {
+        let mut random = Random::seeded(seed);
+        [largest(&mut random), exactly_full(&mut random)].map(|built| encode(&built.trace))
+    });
+    examples.chain(large).chain((0..1_000).map(file)).collect()
+}
+
+/// What each call takes, measured. The program looks up `memcpy` and `memset`
+/// where they are first called, which takes stack too.
+#[test]
+fn the_stack_of_each_call() {
+    let words = "gcc -std=c11 -pthread -Wl,-z,lazy";
+    let program = compiled("stack", words, "tests/tests/callers/stack.c");
+    let mut input = Vec::new();
+    for file in all_sorts() {
+        input.extend((file.len() as u64).to_le_bytes());
+        input.extend(file);
+    }
+    for (call, promised) in [
+        ("judge_file", consistency::JUDGE_STACK),
+        ("report_file", consistency::REPORT_STACK),
+    ] {
+        let said = printed(Command::new(&program).arg(call), &input, usize::MAX);
+        let taken: usize = said.trim().parse().expect("a number");
+        println!("{call}: {taken} bytes of stack, {promised} promised");
+        assert!(0 < taken && taken <= promised, "{call}");
+    }
+}
+
+/// What a thread of the standard library needs of its stack for itself.
+const THREAD: usize = 16_384;
+
+/// The calls for Rust, each on a thread with as much stack as is promised.
+#[test]
+fn the_stack_of_each_call_in_rust() {
+    let files = all_sorts();
+    let mut image = vec![0; consistency::LONGEST_IMAGE];
+    let mut text = vec![0; consistency::LONGEST_REPORT];
+    let mut on_a_thread = |stack: usize, call: fn(&[u8], &mut [u8], &mut [u8])| {
+        let calls = || {
+            files
+                .iter()
+                .for_each(|file| call(file, &mut image, &mut text))
+        };
+        thread::scope(|scope| {
+            let thread = thread::Builder::new().stack_size(stack + THREAD);
+            thread.spawn_scoped(scope, calls).expect("a thread");
+        });
+    };
+    on_a_thread(consistency::JUDGE_STACK, |file, image, _| {
+        consistency::judge(file, image);
+    });
+    on_a_thread(consistency::REPORT_STACK, |file, image, text| {
+        consistency::report(file, image, text);
+    });
 }
