@@ -1,19 +1,27 @@
-/* The proved calls on trace files, for callers in C on x86-64.
+/* The proved calls on trace files, for callers in C and C++ on x86-64.
  *
  *     rt staticlib consistency
  *     cc -I bindings/c YOUR.c target/staticlib/libconsistency.a
  *
- * crates/consistency/src/lib.rt says what is proved of each call.
+ * crates/consistency/src/lib.rt says what is proved of each call. docs/FORMAT.md has the trace file, the image and the report, and the
+ * tables below in their long form: what to do about each code, and an example for each clause.
  *
  * All places that a call is lent stay the caller's, who has them to read (`file`) and to write (the others) for as many elements
  * as the lengths say; they do not overlap, and none is null. A length may be 0, and any bytes may stand in a file. A file is never
  * written, and nothing is touched beyond what a call says that it writes. A call keeps nothing and allocates nothing: threads may
- * call at once, each with places of its own. */
+ * call at once, each with places of its own.
+ *
+ * A call takes no more stack than its CONSISTENCY_..._STACK says, in bytes. That has room for memcpy and memset, and for the loader where it
+ * looks these up at their first call; what a signal handler takes is not in it. */
 #ifndef CONSISTENCY_H
 #define CONSISTENCY_H
 
 #include <stddef.h>
 #include <stdint.h>
+
+#ifdef __cplusplus
+extern "C" {
+#endif
 
 /* The most bytes that a trace file may have; a longer one is code 1. */
 #define CONSISTENCY_LONGEST_FILE 65536
@@ -24,14 +32,34 @@
 
 /* Each call but `report_file` answers a code:
  *
- *     0          it has an answer, in the words that the call says;
- *     1 to 15    the file was refused;
- *     255        there is no room for the words of an answer: nothing was done, and nothing is written.
+ *     0            it has an answer, in the words that the call says;
+ *     255          there is no room for the words of an answer: nothing was done, and nothing is written;
+ *     any other    a refusal, by the table.
  *
  * A refusal is the same for all calls. Its words are written, and nothing else:
  *
  *     0       1         2         3         4
- *     code    record    key       version   0         0 where the code does not name it */
+ *     code    record    key       version   0         0 where the code does not name it
+ *
+ *     code | refused since                                                           | names
+ *     -----|-------------------------------------------------------------------------|--------------------------------------
+ *        1 | the file is cut short, too long, or its first field is not its length   | record 0
+ *        2 | the header's length, kind, keys or clients are wrong                    | record 0
+ *        3 | a record is cut off, or its length is not the one of its kind           | record
+ *        4 | a record has a kind that is not in the format                           | record
+ *        5 | bytes are left after the records that the header counts                 | the last record
+ *        6 | a record has a client that is not in the header                         | record
+ *        7 | a spare byte is not zero, or an operation's kind, key or order is wrong | record
+ *        8 | there is a 64th commit                                                  | record
+ *        9 | a client's session number does not rise                                 | record
+ *       10 | a view lacks version 0 or holds a version that does not exist           | record, least key
+ *       11 | a view holds some but not all versions of a writer                      | record, least missing key and version
+ *       12 | a shift loses a version that the view held                              | record, least key and version
+ *       13 | a read's value is not that of the newest version in the view            | record, least key, the version read
+ *       14 | a view changed at a key without an operation                            | record, least key
+ *       15 | the image buffer is shorter than the image                              |
+ *
+ * Of several that are due the first is answered, in the order that docs/FORMAT.md gives. */
 #define CONSISTENCY_NO_ROOM 255
 #define CONSISTENCY_REFUSAL_WORDS 5
 
@@ -50,8 +78,37 @@ uint64_t judge_file(const uint8_t *file, size_t file_length,
                     uint64_t *words, size_t words_length);
 
 #define CONSISTENCY_JUDGE_WORDS 44
+#define CONSISTENCY_JUDGE_STACK 32768
 
-/* Where the four words of each level begin. */
+/* Where the four words of each level begin. A level fails at the first commit that fails one of its clauses, by the lowest of these:
+ *
+ *     level | name                        | clauses
+ *     ------|-----------------------------|----------
+ *     MR    | monotonic reads             | 1
+ *     MW    | monotonic writes            | 3
+ *     RYW   | read your writes            | 2
+ *     WFR   | write follows reads         | 4
+ *     CC    | causal consistency          | 1 2 3 4
+ *     UA    | update atomic               | 5
+ *     PSI   | parallel snapshot isolation | 1 2 3 4 5
+ *     CP    | consistent prefix           | 1 2 6
+ *     SI    | snapshot isolation          | 1 2 5 7
+ *     SER   | serialisability             | 8
+ *
+ * A clause wants versions in a view of the commit's client, 1 and 2 in the view after the commit and the others in the view before it;
+ * key and version name the least that is not there. t is any commit of which the view before holds a version. SO, WR, WW and RW are
+ * the links between commits that docs/FORMAT.md describes; SO;RW? is SO, or SO and then RW.
+ *
+ *     clause | wants
+ *     -------|------------------------------------------------------------------------------------------
+ *          1 | all that the view before holds
+ *          2 | the versions that the commit wrote
+ *          3 | all versions by the commits before t in its session
+ *          4 | each version that t, or a commit before t in its session, read
+ *          5 | every version of each key that the commit writes
+ *          6 | all versions by the commits that lead to t by one or more of SO;RW?, WR;RW? and WW
+ *          7 | all versions by the commits that lead to t by one or more of SO;RW?, WR;RW? and WW;RW?
+ *          8 | every version of every key */
 enum {
     CONSISTENCY_MR = 4,
     CONSISTENCY_MW = 8,
@@ -71,5 +128,11 @@ enum {
 size_t report_file(const uint8_t *file, size_t file_length,
                    uint8_t *image, size_t image_length,
                    uint8_t *text, size_t text_length);
+
+#define CONSISTENCY_REPORT_STACK 32768
+
+#ifdef __cplusplus
+}
+#endif
 
 #endif

@@ -1,19 +1,25 @@
-//! The examples of a caller in Rust and of one in C: they compile, they say the
-//! same, and they stand in the README as they are. The header for C has the
-//! numbers of the crate for Rust.
+//! Callers in Rust, C and C++: the examples compile without a warning, they say
+//! what is due, and they stand in the README as they are. The header and the
+//! crate for Rust have the same numbers and tables, and no call takes more
+//! stack than they say.
 
 mod common;
 
 use common::printed;
-use model::files::{at, files};
+use model::files::{at, files, report_of};
+use model::generate::{exactly_full, file, largest};
 use model::levels::{place_of, LEVELS};
+use model::random::Random;
+use model::trace::encode;
 use model::{judge_with_room, Answer, Verdict};
-use std::fs;
+use std::fs::{self, File, OpenOptions};
+use std::io::Write;
 use std::path::{Path, PathBuf};
-use std::process::Command;
+use std::process::{Command, Stdio};
+use std::thread;
 
-/// What an example must print for a file: whether it kept SI.
-fn due(file: &[u8]) -> String {
+/// What `keeps_si` must print for a file: whether it kept SI.
+fn keeps_si(file: &[u8]) -> String {
     match judge_with_room(file) {
         Answer::Refused(refusal) => {
             format!("code {} at record {}\n", refusal.code, refusal.record)
@@ -25,11 +31,46 @@ fn due(file: &[u8]) -> String {
     }
 }
 
-fn check(mut caller: Command) {
-    for (name, example) in files() {
-        let said = printed(&mut caller, &example.bytes, usize::MAX);
-        assert_eq!(said, due(&example.bytes), "{name}");
+/// An example prints what is due for each file, ends on an input that does not,
+/// and takes no failure for an answer.
+fn check(example: &Path, due: fn(&[u8]) -> String) {
+    for (name, trace) in files() {
+        let said = printed(&mut Command::new(example), &trace.bytes, usize::MAX);
+        assert_eq!(said, due(&trace.bytes), "{name}");
     }
+    ends(example, &due(&[0; consistency::LONGEST_FILE + 1]));
+    let folder = File::open(at("examples")).expect("a folder");
+    fails(Command::new(example).stdin(folder));
+    let file = File::open(at("examples/B-lost-update")).expect("a trace file");
+    let full = OpenOptions::new().write(true).open("/dev/full");
+    fails(
+        Command::new(example)
+            .stdin(file)
+            .stdout(full.expect("a full device")),
+    );
+}
+
+/// It has an answer long before it has read all of 64 MiB.
+fn ends(example: &Path, due: &str) {
+    let mut child = Command::new(example)
+        .stdin(Stdio::piped())
+        .stdout(Stdio::piped())
+        .spawn()
+        .expect("the example starts");
+    let mut stdin = child.stdin.take().expect("it is piped");
+    let part = [0; 65_536];
+    let taken = (0..1024).take_while(|_| stdin.write_all(&part).is_ok());
+    assert!(taken.count() < 1024, "{} reads on", example.display());
+    drop(stdin);
+    let output = child.wait_with_output().expect("the example ends");
+    assert_eq!(String::from_utf8_lossy(&output.stdout), due);
+}
+
+/// It prints nothing, and its status says that it failed.
+fn fails(example: &mut Command) {
+    let output = example.output().expect("the example starts");
+    assert!(!output.status.success(), "{example:?}");
+    assert_eq!(String::from_utf8_lossy(&output.stdout), "", "{example:?}");
 }
 
 fn run(command: &mut Command) {
@@ -43,11 +84,33 @@ fn room() -> PathBuf {
     PathBuf::from(env!("CARGO_TARGET_TMPDIR"))
 }
 
+/// A compiler with these words, and with every warning an error.
+fn compiler(words: &str) -> Command {
+    let mut words = words.split(' ');
+    let mut compiler = Command::new(words.next().expect("the name of a compiler"));
+    compiler.args(words);
+    compiler.args(["-pedantic", "-Wall", "-Wextra", "-Werror", "-O1"]);
+    compiler.arg("-I").arg(at("bindings/c"));
+    compiler
+}
+
+/// The program of this name, compiled from a source with the library.
+fn compiled(name: &str, words: &str, source: &str) -> PathBuf {
+    let program = room().join(name);
+    run(compiler(words)
+        .arg("-o")
+        .arg(&program)
+        .arg(at(source))
+        .args(["-x", "none"])
+        .arg(at("target/staticlib/libconsistency.a")));
+    program
+}
+
 #[test]
 fn what_the_examples_must_say() {
     let all: Vec<String> = files()
         .iter()
-        .map(|(_, example)| due(&example.bytes))
+        .map(|(_, trace)| keeps_si(&trace.bytes))
         .collect();
     assert_eq!(all[1], "no, see record 2\n");
     assert_eq!(all[3], "yes\n");
@@ -61,41 +124,46 @@ fn from_rust() {
         .arg("--target-dir")
         .arg(room().join("rust"))
         .current_dir(at("bindings/rust")));
-    check(Command::new(room().join("rust/debug/examples/keeps_si")));
+    check(&room().join("rust/debug/examples/keeps_si"), keeps_si);
 }
 
 #[test]
 fn from_c() {
-    let program = room().join("keeps_si");
-    run(Command::new("cc")
-        .args([
-            "-std=c99",
-            "-pedantic",
-            "-Wall",
-            "-Wextra",
-            "-Werror",
-            "-O1",
-            "-o",
-        ])
-        .arg(&program)
-        .arg(at("bindings/c/keeps_si.c"))
-        .arg(at("target/staticlib/libconsistency.a")));
-    check(Command::new(program));
+    let program = compiled("keeps_si", "gcc -std=c99", "bindings/c/keeps_si.c");
+    check(&program, keeps_si);
 }
 
-fn text(path: &Path) -> String {
-    fs::read_to_string(path).unwrap_or_else(|error| panic!("{}: {error}", path.display()))
+/// The example in C is one in C++ too.
+#[test]
+fn from_cpp() {
+    let words = "g++ -std=c++11 -x c++";
+    let program = compiled("keeps_si_cpp", words, "bindings/c/keeps_si.c");
+    check(&program, keeps_si);
+    let program = compiled("print_report", words, "bindings/c/print_report.cc");
+    check(&program, report_of);
+}
+
+/// It needs nothing before it.
+#[test]
+fn the_header_alone() {
+    for words in ["gcc -std=c99 -x c", "g++ -std=c++11 -x c++"] {
+        let header = at("bindings/c/consistency.h");
+        run(compiler(words).arg("-fsyntax-only").arg(header));
+    }
+}
+
+fn text(path: &str) -> String {
+    fs::read_to_string(at(path)).unwrap_or_else(|error| panic!("{path}: {error}"))
 }
 
 #[test]
 fn the_readme_has_the_examples() {
-    let readme = text(&at("README.md"));
+    let readme = text("README.md");
     for path in [
         "bindings/rust/examples/keeps_si.rs",
         "bindings/c/keeps_si.c",
     ] {
-        let example = text(&at(path));
-        let indented: String = example
+        let indented: String = text(path)
             .lines()
             .map(|line| format!("    {line}\n"))
             .collect();
@@ -105,7 +173,7 @@ fn the_readme_has_the_examples() {
 
 #[test]
 fn the_numbers_of_the_header() {
-    let header = text(&at("bindings/c/consistency.h"));
+    let header = text("bindings/c/consistency.h");
     let has = |line: String| assert!(header.contains(&line), "{line}");
     let defines = |name: &str, number: usize| {
         has(format!("#define CONSISTENCY_{name} {number}\n"));
@@ -116,8 +184,140 @@ fn the_numbers_of_the_header() {
     defines("NO_ROOM", consistency::NO_ROOM as usize);
     defines("REFUSAL_WORDS", consistency::REFUSAL_WORDS);
     defines("JUDGE_WORDS", consistency::JUDGE_WORDS);
+    defines("JUDGE_STACK", consistency::JUDGE_STACK);
+    defines("REPORT_STACK", consistency::REPORT_STACK);
     let places: Vec<String> = (0..LEVELS.len())
         .map(|place| format!("    CONSISTENCY_{} = {}", LEVELS[place].name, 4 + 4 * place))
         .collect();
     has(format!("enum {{\n{}\n}};\n", places.join(",\n")));
+}
+
+/// The rows of the table with this head, in Markdown or in a comment: cells
+/// between bars.
+fn table(path: &str, head: &[&str]) -> Vec<Vec<String>> {
+    let cells = |line: &str| -> Vec<String> {
+        let line = line.trim_start_matches([' ', '*', '/']);
+        let line = line.trim_end_matches("*/").trim_end();
+        let line = match line.strip_prefix('|') {
+            Some(inner) => inner.strip_suffix('|').unwrap_or(inner),
+            None => line,
+        };
+        line.split('|')
+            .map(|cell| cell.trim().to_string())
+            .collect()
+    };
+    let text = text(path);
+    let mut rows = text.lines().map(cells).skip_while(|row| row != head);
+    assert!(rows.next().is_some(), "{path} has no table {head:?}");
+    rows.skip(1)
+        .take_while(|row| row.len() == head.len())
+        .collect()
+}
+
+/// A table that the header and the crate for Rust both have.
+fn shared(path: &str, head: &[&str]) -> Vec<Vec<String>> {
+    let rows = table("bindings/c/consistency.h", head);
+    assert_eq!(rows, table(path, head), "{path}");
+    rows
+}
+
+#[test]
+fn the_table_of_codes() {
+    let codes = shared(
+        "bindings/rust/src/refusal.rs",
+        &["code", "refused since", "names"],
+    );
+    let long = table("docs/FORMAT.md", &["code", "when", "names", "what to do"]);
+    assert_eq!(long[0][..2], ["0", "judged"]);
+    assert_eq!(codes.len(), long.len() - 1);
+    for (code, long) in codes.iter().zip(&long[1..]) {
+        assert_eq!([&code[0], &code[2]], [&long[0], &long[2]]);
+    }
+}
+
+#[test]
+fn the_table_of_levels() {
+    let levels = shared(
+        "bindings/rust/src/judging.rs",
+        &["level", "name", "clauses"],
+    );
+    let long = table("docs/FORMAT.md", &["level", "clauses"]);
+    assert_eq!([levels.len(), long.len()], [LEVELS.len(); 2]);
+    for ((level, long), due) in levels.iter().zip(&long).zip(&LEVELS) {
+        assert_eq!(long[0], format!("{}, {}", level[0], level[1]));
+        assert_eq!(long[1], level[2]);
+        let clauses: Vec<String> = due.clauses.iter().map(u8::to_string).collect();
+        assert_eq!([due.name, &clauses.join(" ")], [&level[0], &level[2]]);
+    }
+}
+
+#[test]
+fn the_table_of_clauses() {
+    let clauses = shared("bindings/rust/src/judging.rs", &["clause", "wants"]);
+    let head = ["clause", "wants", "an example that fails it"];
+    let long = table("docs/FORMAT.md", &head);
+    assert_eq!(clauses.len(), long.len());
+    for (clause, long) in clauses.iter().zip(&long) {
+        assert!(long[0].starts_with(&format!("{}, ", clause[0])), "{long:?}");
+    }
+}
+
+/// Files of all sorts, among them the largest and the fullest.
+fn all_sorts() -> Vec<Vec<u8>> {
+    let examples = files().into_iter().map(|(_, trace)| trace.bytes);
+    let large = (0..4).flat_map(|seed| {
+        let mut random = Random::seeded(seed);
+        [largest(&mut random), exactly_full(&mut random)].map(|built| encode(&built.trace))
+    });
+    examples.chain(large).chain((0..1_000).map(file)).collect()
+}
+
+/// What each call takes, measured. The program looks up `memcpy` and `memset`
+/// where they are first called, which takes stack too.
+#[test]
+fn the_stack_of_each_call() {
+    let words = "gcc -std=c11 -pthread -Wl,-z,lazy";
+    let program = compiled("stack", words, "tests/tests/callers/stack.c");
+    let mut input = Vec::new();
+    for file in all_sorts() {
+        input.extend((file.len() as u64).to_le_bytes());
+        input.extend(file);
+    }
+    for (call, promised) in [
+        ("judge_file", consistency::JUDGE_STACK),
+        ("report_file", consistency::REPORT_STACK),
+    ] {
+        let said = printed(Command::new(&program).arg(call), &input, usize::MAX);
+        let taken: usize = said.trim().parse().expect("a number");
+        println!("{call}: {taken} bytes of stack, {promised} promised");
+        assert!(0 < taken && taken <= promised, "{call}");
+    }
+}
+
+/// What a thread of the standard library needs of its stack for itself.
+const THREAD: usize = 16_384;
+
+/// The calls for Rust, each on a thread with as much stack as is promised.
+#[test]
+fn the_stack_of_each_call_in_rust() {
+    let files = all_sorts();
+    let mut image = vec![0; consistency::LONGEST_IMAGE];
+    let mut text = vec![0; consistency::LONGEST_REPORT];
+    let mut on_a_thread = |stack: usize, call: fn(&[u8], &mut [u8], &mut [u8])| {
+        let calls = || {
+            files
+                .iter()
+                .for_each(|file| call(file, &mut image, &mut text))
+        };
+        thread::scope(|scope| {
+            let thread = thread::Builder::new().stack_size(stack + THREAD);
+            thread.spawn_scoped(scope, calls).expect("a thread");
+        });
+    };
+    on_a_thread(consistency::JUDGE_STACK, |file, image, _| {
+        consistency::judge(file, image);
+    });
+    on_a_thread(consistency::REPORT_STACK, |file, image, text| {
+        consistency::report(file, image, text);
+    });
 }

@@ -18,6 +18,21 @@ pub enum Answer {
 }
 
 /// The verdicts of the ten levels, in report order.
+///
+/// | level | name | clauses |
+/// |---|---|---|
+/// | MR | monotonic reads | 1 |
+/// | MW | monotonic writes | 3 |
+/// | RYW | read your writes | 2 |
+/// | WFR | write follows reads | 4 |
+/// | CC | causal consistency | 1 2 3 4 |
+/// | UA | update atomic | 5 |
+/// | PSI | parallel snapshot isolation | 1 2 3 4 5 |
+/// | CP | consistent prefix | 1 2 6 |
+/// | SI | snapshot isolation | 1 2 5 7 |
+/// | SER | serialisability | 8 |
+///
+/// [`Verdict`] says what the clauses want.
 #[derive(Clone, Copy, PartialEq, Eq, Debug)]
 pub struct Verdicts {
     pub mr: Verdict,
@@ -32,8 +47,26 @@ pub struct Verdicts {
     pub ser: Verdict,
 }
 
-/// What a level says of a trace: it accepts, or it is refused at the record of
-/// the first commit that fails it, by a clause that misses a version of a key.
+/// What a level says of a trace: it accepts; or it is refused at the record of
+/// the first commit that fails one of its clauses, by the lowest of these, with
+/// the least version, by key and then by number, that the clause misses.
+///
+/// A clause wants versions in a view of the commit's client, 1 and 2 in the view
+/// after the commit and the others in the view before it. t is any commit of
+/// which the view before holds a version. SO, WR, WW and RW are the links
+/// between commits that `docs/FORMAT.md` describes, with an example for each
+/// clause; SO;RW? is SO, or SO and then RW.
+///
+/// | clause | wants |
+/// |---|---|
+/// | 1 | all that the view before holds |
+/// | 2 | the versions that the commit wrote |
+/// | 3 | all versions by the commits before t in its session |
+/// | 4 | each version that t, or a commit before t in its session, read |
+/// | 5 | every version of each key that the commit writes |
+/// | 6 | all versions by the commits that lead to t by one or more of SO;RW?, WR;RW? and WW |
+/// | 7 | all versions by the commits that lead to t by one or more of SO;RW?, WR;RW? and WW;RW? |
+/// | 8 | every version of every key |
 #[derive(Clone, Copy, PartialEq, Eq, Debug)]
 pub enum Verdict {
     Accepted,
@@ -47,6 +80,9 @@ pub enum Verdict {
 
 /// The words of an answer of [`judge_words`].
 pub const JUDGE_WORDS: usize = 44;
+
+/// [`judge`] and [`judge_words`] take no more stack, in bytes.
+pub const JUDGE_STACK: usize = 32_768;
 
 /// Judges one trace file. Where it is judged, the image of its store stands at
 /// the start of `image`; no other byte of `image` changes, and none at all

@@ -3,16 +3,21 @@
 //! `crates/consistency/src/lib.rt` says what is proved of each call; the types
 //! are those of the proved crates below it. Nothing is asked of a caller: any
 //! bytes get an answer, and a buffer may have any length. A call keeps nothing
-//! and allocates nothing, so that several threads may call at once.
+//! and allocates nothing, so that several threads may call at once. It takes no
+//! more stack than its constant says; the buffers are the caller's.
+//!
+//! [`Refusal`] has the table of codes, [`Verdicts`] that of levels and
+//! [`Verdict`] that of clauses. `docs/FORMAT.md` has the trace file, the image
+//! and the report, and the long form of the tables.
 
 mod archive;
 mod judging;
 mod refusal;
 mod report;
 
-pub use judging::{judge, judge_words, Answer, Verdict, Verdicts, JUDGE_WORDS};
+pub use judging::{judge, judge_words, Answer, Verdict, Verdicts, JUDGE_STACK, JUDGE_WORDS};
 pub use refusal::{Key, Refusal, VersionNumber, NO_ROOM, REFUSAL_WORDS};
-pub use report::{report, LONGEST_REPORT};
+pub use report::{report, LONGEST_REPORT, REPORT_STACK};
 
 /// The most bytes that a trace file may have; a longer one is code 1.
 pub const LONGEST_FILE: usize = 65_536;

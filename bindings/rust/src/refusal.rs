@@ -9,8 +9,29 @@ pub struct Key(pub usize);
 #[derive(Clone, Copy, PartialEq, Eq, Debug)]
 pub struct VersionNumber(pub usize);
 
-/// Why a trace file was refused: a bench code from 1 to 15 with what it names,
-/// 0 where it names nothing.
+/// Why a call refused, in the same form for all calls: a code with what it
+/// names, and 0 for what it does not name.
+///
+/// | code | refused since | names |
+/// |---|---|---|
+/// | 1 | the file is cut short, too long, or its first field is not its length | record 0 |
+/// | 2 | the header's length, kind, keys or clients are wrong | record 0 |
+/// | 3 | a record is cut off, or its length is not the one of its kind | record |
+/// | 4 | a record has a kind that is not in the format | record |
+/// | 5 | bytes are left after the records that the header counts | the last record |
+/// | 6 | a record has a client that is not in the header | record |
+/// | 7 | a spare byte is not zero, or an operation's kind, key or order is wrong | record |
+/// | 8 | there is a 64th commit | record |
+/// | 9 | a client's session number does not rise | record |
+/// | 10 | a view lacks version 0 or holds a version that does not exist | record, least key |
+/// | 11 | a view holds some but not all versions of a writer | record, least missing key and version |
+/// | 12 | a shift loses a version that the view held | record, least key and version |
+/// | 13 | a read's value is not that of the newest version in the view | record, least key, the version read |
+/// | 14 | a view changed at a key without an operation | record, least key |
+/// | 15 | the image buffer is shorter than the image | |
+///
+/// Of several that are due the first is answered, in the order that
+/// `docs/FORMAT.md` gives; there it also stands what to do about each.
 #[derive(Clone, Copy, PartialEq, Eq, Debug)]
 pub struct Refusal {
     pub code: u8,

@@ -5,6 +5,9 @@ use crate::archive::report_file;
 /// No report is longer; a buffer of this length is never too short.
 pub const LONGEST_REPORT: usize = 1_272;
 
+/// [`report`] takes no more stack, in bytes.
+pub const REPORT_STACK: usize = 32_768;
+
 /// Judges one trace file as [`judge`](crate::judge) does and writes the report,
 /// each line with a line feed at its end, at the start of `text`: answers its
 /// length. Where `text` has less than [`LONGEST_REPORT`] bytes nothing is
