@@ -109,6 +109,26 @@ fn a_cut_output() {
     assert_eq!(fs::read(&cut).expect("the output"), b"");
 }
 
+/// A write that takes no byte and does not fail has no reason of the system's,
+/// and that of an earlier call is not told for it.
+#[test]
+fn an_output_that_takes_nothing() {
+    let write = PathBuf::from(env!("CARGO_TARGET_TMPDIR")).join("takes_nothing.so");
+    let compiler = Command::new("gcc")
+        .args(["-Wall", "-Wextra", "-Werror", "-shared", "-fPIC", "-o"])
+        .arg(&write)
+        .arg(at("tests/tests/streams/takes_nothing.c"))
+        .status();
+    assert!(compiler.expect("there is gcc").success());
+    let output = Command::new(program())
+        .env("LD_PRELOAD", &write)
+        .stdin(lost_update())
+        .output()
+        .expect("the program starts");
+    let told = "standard output: no byte was taken\n";
+    assert_eq!(said(output), (String::new(), told.to_string()));
+}
+
 /// The pieces of the lost update, with pauses.
 fn late(mut to: impl Write) {
     for piece in encode(&trace_b()).chunks(30) {

@@ -82,12 +82,23 @@ pub fn read_whole(fd: i32, name: &[u8], buffer: &mut [u8]) -> Input
     Input::Whole(done)
 }
 
+// Tells of a write that took no byte and did not fail: there is no reason of the system's to tell.
+fn none_taken(name: &[u8]) {
+    io::write_all(libc::STDERR_FILENO, name);
+    io::write_all(libc::STDERR_FILENO, b": no byte was taken\n");
+}
+
 // Writes all of the text, at once where the system takes it, and answers whether it was written whole; `name` is what a failure is told of.
 pub fn write_whole(fd: i32, name: &[u8], text: &[u8]) -> bool {
     let mut done: usize = 0;
     let mut left = PATIENCE;
     while done < text.len() {
-        let more = io::count(libc::write(fd, &text[done..]), &text[done..]);
+        let got = libc::write(fd, &text[done..]);
+        if got == 0 {
+            none_taken(name);
+            return false;
+        }
+        let more = io::count(got, &text[done..]);
         if more > 0 {
             done = done + more;
             left = PATIENCE;

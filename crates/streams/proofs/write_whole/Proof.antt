@@ -29,6 +29,12 @@ part-write-end c = search needs
 write-requires : tie.Need-write-requires Inv-loop μ-loop
 write-requires c κs = search needs
 
+none-taken-requires : tie.Need-none-taken-requires Inv-loop μ-loop
+none-taken-requires c κs = search needs
+
+returns : tie.Need-returns Inv-loop μ-loop
+returns c = search needs
+
 sub-count : tie.Need-sub-count Inv-loop μ-loop
 sub-count c = search needs
 
@@ -53,20 +59,20 @@ loop-again c = search needs
 again-requires : tie.Need-again-requires Inv-loop μ-loop
 again-requires c κs = search needs
 
-returns : tie.Need-returns Inv-loop μ-loop
-returns c = search needs
+returns-2 : tie.Need-returns-2 Inv-loop μ-loop
+returns-2 c = search needs
 
 sub-left : tie.Need-sub-left Inv-loop μ-loop
-sub-left c = c .before .again .ensures (not-false _ (c .if2 .left))
+sub-left c = c .before .again .ensures (not-false _ (c .if3 .left))
 
 loop-less-2 : tie.Need-loop-less-2 Inv-loop μ-loop
-loop-less-2 c = omega (arith, c .before .again .ensures (not-false _ (c .if2 .left)))
+loop-less-2 c = omega (arith, c .before .again .ensures (not-false _ (c .if3 .left)))
 
 loop-again-2 : tie.Need-loop-again-2 Inv-loop μ-loop
 loop-again-2 c = search needs
 
-returns-2 : tie.Need-returns-2 Inv-loop μ-loop
-returns-2 c = search needs
+returns-3 : tie.Need-returns-3 Inv-loop μ-loop
+returns-3 c = search needs
 
 pub write-whole-spec : {M : Type 1} → statement M
 write-whole-spec =
@@ -79,6 +85,8 @@ write-whole-spec =
     part-write-start
     part-write-end
     write-requires
+    none-taken-requires
+    returns
     sub-count
     part-count-start
     part-count-end
@@ -87,8 +95,8 @@ write-whole-spec =
     loop-less
     loop-again
     again-requires
-    returns
+    returns-2
     sub-left
     loop-less-2
     loop-again-2
-    returns-2)
+    returns-3)
