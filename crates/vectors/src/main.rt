@@ -2,18 +2,19 @@
 use libc::STDOUT_FILENO;
 use store::Store;
 use streams::Input;
+ghost use Prim.Native.Nat.{_+_, _≤_};
+ghost use lib.ListN.{length};
+ghost use Rattle.report.specs.Longest.{longestReport};
 
-// Writes the text to standard output, and answers whether it was written whole.
-fn print(text: &[u8]) -> bool {
-    streams::write_whole(STDOUT_FILENO, b"standard output", text)
-}
-
-// The name of the file and its report.
-fn print_report(name: &[u8], file: &[u8]) -> bool {
+// The name of the file, a line feed and the report, at the start of `out`: so many bytes.
+fn put_report(out: &mut [u8], name: &[u8], file: &[u8]) -> usize
+    requires { ⌜ length (now name) + (1 + longestReport) ≤ length (now out) ⌝ }
+    ensures { λ r. ⌜ r ≤ length (now (out .exit)) ⌝ }
+{
+    let named = text::put_bytes(out, 0, name);
+    let from = text::put_bytes(out, named, b"\n");
     let mut image = [0u8; Store::IMAGE];
-    let mut text = [0u8; report::LONGEST];
-    let length = report::write(judging::judge(file, &mut image), &mut text);
-    print(name) && print(b"\n") && print(&text[..length])
+    from + report::write(judging::judge(file, &mut image), &mut out[from..])
 }
 
 // The file that argument i names; whether to go on with the next.
@@ -31,7 +32,9 @@ fn judge_argument(i: usize) -> bool {
     let Input::Whole(n) = input else {
         return true;
     };
-    print_report(&name[..length], &file[..n])
+    let mut out = [0u8; libc::PATH_MAX + 1 + report::LONGEST];
+    let whole = put_report(&mut out, &name[..length], &file[..n]);
+    streams::write_whole(STDOUT_FILENO, b"standard output", &out[..whole])
 }
 
 fn main() {

@@ -1,4 +1,4 @@
--- What `vectors::judge_argument` needs holds: the bytes that were read stand within their array. Assumes nothing.
+-- What `vectors::judge_argument` needs holds: the bytes that were read, and those of the report, stand within their arrays. Assumes nothing.
 use mathlib.Core.Path.{sym}
 use lib.Seq.{length-take-le}
 use borrow.Author.Needs.{needs}
@@ -59,20 +59,35 @@ enum-told c = search needs
 returns-2 : tie.Need-returns-2
 returns-2 c = search needs
 
+slice-aggregate-put-report : tie.Need-slice-aggregate-put-report
+slice-aggregate-put-report c = search needs
+
 array-share-prefix-name-4 : tie.Need-array-share-prefix-name-4
 array-share-prefix-name-4 c = search needs
 
-slice-aggregate-print-report : tie.Need-slice-aggregate-print-report
-slice-aggregate-print-report c = search needs
+slice-aggregate-put-report-2 : tie.Need-slice-aggregate-put-report-2
+slice-aggregate-put-report-2 c = search needs
 
 array-share-prefix-file : tie.Need-array-share-prefix-file
-array-share-prefix-file c = rw (c .before .before .input .given .1) at (c .before .before .before .before .before .before .read-whole .ensures)
+array-share-prefix-file c = rw (c .before .before .before .input .given .1) at (c .before .before .before .before .before .before .before .read-whole .ensures)
 
-slice-aggregate-print-report-2 : tie.Need-slice-aggregate-print-report-2
-slice-aggregate-print-report-2 c = sym (length-take-le _ _ (rw (c .before .before .before .input .given .1) at (c .before .before .before .before .before .before .before .read-whole .ensures)))
+slice-aggregate-put-report-3 : tie.Need-slice-aggregate-put-report-3
+slice-aggregate-put-report-3 c = sym (length-take-le _ _ (rw (c .before .before .before .before .input .given .1) at (c .before .before .before .before .before .before .before .before .read-whole .ensures)))
 
-print-report-requires : tie.Need-print-report-requires
-print-report-requires c κs = search needs
+put-report-requires : tie.Need-put-report-requires
+put-report-requires c κs = search needs
+
+slice-aggregate-write-whole : tie.Need-slice-aggregate-write-whole
+slice-aggregate-write-whole c = search needs
+
+array-share-prefix-out : tie.Need-array-share-prefix-out
+array-share-prefix-out c = search needs
+
+slice-aggregate-write-whole-2 : tie.Need-slice-aggregate-write-whole-2
+slice-aggregate-write-whole-2 c = sym (length-take-le _ _ (search needs))
+
+write-whole-requires : tie.Need-write-whole-requires
+write-whole-requires c κs = search needs
 
 returns-3 : tie.Need-returns-3
 returns-3 c = search needs
@@ -99,9 +114,14 @@ judge-argument-spec =
     enum-known-input
     enum-told
     returns-2
+    slice-aggregate-put-report
     array-share-prefix-name-4
-    slice-aggregate-print-report
+    slice-aggregate-put-report-2
     array-share-prefix-file
-    slice-aggregate-print-report-2
-    print-report-requires
+    slice-aggregate-put-report-3
+    put-report-requires
+    slice-aggregate-write-whole
+    array-share-prefix-out
+    slice-aggregate-write-whole-2
+    write-whole-requires
     returns-3)
