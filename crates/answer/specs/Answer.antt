@@ -5,18 +5,16 @@ use mathlib.Core.Path.{_≡_}
 use mathlib.Core.Bool.{Bool}
 use mathlib.Core.Option.{Option, some, none}
 use mathlib.Core.List.{List, map}
-use lib.Dec.{leb}
 use lib.ListN.{length}
-use Rattle.search.specs.Choose.{choose, need}
-use Rattle.endian.specs.Endian.{putAt}
 use Rattle.store.specs.Limits.{maxImage}
 use Rattle.store.specs.Store.{Store, Configuration, opening}
 use Rattle.store.specs.Update.{final, firstAlong}
-use Rattle.store.specs.Refusal.{Refusal, refuse, refusesEvent}
+use Rattle.store.specs.Refusal.{Refusal, refusesEvent}
 use Rattle.store.specs.Image.{image}
 use Rattle.trace.specs.Result.{Result, refused, taken, onTaken}
 use Rattle.trace.specs.Format.{Trace, decode}
 use Rattle.levels.specs.Level.{Level, levels, Failure, firstFailure}
+use Rattle.answer.specs.Output.{Output, answerIn, bufferAfter}
 
 -- "the whole list of its shifts and commits, run in turn from the opening store and views for its keys and clients"
 abbrev pub finalStore : Trace → Store
@@ -54,22 +52,17 @@ report t = record {
   imageLength = length (image (finalStore t));
 }
 
--- code 15: "image buffer shorter than the image", "15 last"
-unfoldable pub judged : ℕ → Trace → Result Report
-judged room t = need (leb (length (image (finalStore t))) room) (refused (refuse 15 0)) (taken (report t))
+-- what is made of the bytes of a file: the report, and the image of its store
+unfoldable pub judged : List ℕ → Result (Output Report)
+judged bytes = onTaken (accept bytes) (λ t. taken (record { told = report t; bytes = image (finalStore t) }))
 
--- the answer for the bytes of a file and an image buffer of `room` bytes
+-- the answer for the bytes of a file and an image buffer of `room` bytes; code 15: "image buffer shorter than the image", "15 last"
 unfoldable pub answer : List ℕ → ℕ → Result Report
-answer bytes room = onTaken (accept bytes) (judged room)
-
--- the image buffer afterwards: "bytes after the image keep what they had", and a refusal "changes no byte of the image buffer"
-unfoldable pub bufferAfter : List ℕ → Result Trace → List ℕ
-bufferAfter buffer (refused r) = buffer
-bufferAfter buffer (taken t) = choose (leb (length (image (finalStore t))) (length buffer)) (putAt buffer 0 (image (finalStore t))) buffer
+answer bytes room = answerIn 15 room (judged bytes)
 
 -- what stands in the image buffer after the bytes of a file were judged
 abbrev pub imageAfter : List ℕ → List ℕ → List ℕ
-imageAfter bytes buffer = bufferAfter buffer (accept bytes)
+imageAfter bytes buffer = bufferAfter (judged bytes) buffer
 
 -- what is made of a trace has at most so many bytes, whatever trace the bytes of a file are taken as
 abbrev pub AtMost : ℕ → (Trace → List ℕ) → List ℕ → Type 0

@@ -1,3 +1,4 @@
+pub mod Output
 pub mod Answer
 pub mod Replay
 pub mod Demand3

@@ -1,11 +1,12 @@
 -- The file of a trace is a list of bytes, whatever the trace. Assumes nothing.
 use Prim.Native.Nat.{ℕ}
 use mathlib.Core.List.{List, [], _∷_}
+use lib.ListN.{length}
 use Rattle.endian.specs.Endian.{Bytes, leBytes}
 use Rattle.endian.proofs.Laws.{bytes-none, bytes-append, bytes-leBytes, bytes-leBytes-append, bytes-pieces}
 use Rattle.store.specs.Store.{View, Operation, Event, shift, commit}
 use Rattle.trace.specs.Format.{Trace}
-use Rattle.trace.specs.Encode.{operationBytes, operationsBytes, viewBytes, eventBytes, eventsBytes, fileBody, encode}
+use Rattle.trace.specs.Encode.{operationBytes, operationsBytes, viewBytes, eventBytes, eventsBytes, fileHead, encode}
 
 operation-bytes : (o : Operation) → Bytes (operationBytes o)
 unfolding operationBytes
@@ -32,10 +33,11 @@ unfolding eventsBytes
 events-bytes keys [] = bytes-none
 events-bytes keys (e ∷ es) = bytes-append (eventBytes keys e) (eventsBytes keys es) (event-bytes keys e) (events-bytes keys es)
 
-body-bytes : (t : Trace) → Bytes (fileBody t)
-unfolding fileBody
-body-bytes t = bytes-leBytes-append _ _ _ (bytes-leBytes-append _ _ _ (bytes-leBytes-append _ _ _ (bytes-leBytes-append _ _ _ (bytes-leBytes-append _ _ _ (events-bytes (t .keys) (t .events))))))
+head-bytes : (whole keys clients records : ℕ) → Bytes (fileHead whole keys clients records)
+unfolding fileHead
+head-bytes whole keys clients records =
+    bytes-leBytes-append _ _ _ (bytes-leBytes-append _ _ _ (bytes-leBytes-append _ _ _ (bytes-leBytes-append _ _ _ (bytes-leBytes-append _ _ _ (bytes-leBytes _ _)))))
 
 pub encode-bytes : (t : Trace) → Bytes (encode t)
 unfolding encode
-encode-bytes t = bytes-leBytes-append _ _ _ (body-bytes t)
+encode-bytes t = bytes-append (fileHead _ (t .keys) (t .clients) (length (t .events))) (eventsBytes (t .keys) (t .events)) (head-bytes _ (t .keys) (t .clients) (length (t .events))) (events-bytes (t .keys) (t .events))

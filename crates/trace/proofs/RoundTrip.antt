@@ -4,6 +4,7 @@ use Prim.Native.Nat.{ℕ, suc, _+_, _*_, _^_, _≤_, _<_}
 use mathlib.Core.Path.{_≡_, refl, sym, ap, ap₂, _∙_, subst, fun-ext}
 use mathlib.Core.List.{List, [], _∷_, map}
 use native.Mathlib.Omega.{arith}
+use native.Mathlib.Nat.{zero-add}
 use native.Mathlib.Decide.{decLt}
 use lib.Dec.{T, ltb, lit<, lt→ltb}
 use lib.Arith.{le→nltb}
@@ -21,8 +22,8 @@ use Rattle.store.proofs.Run.{commitsIn}
 use Rattle.trace.specs.Result.{Result, taken, onTaken}
 use Rattle.trace.specs.Entry.{Entry, shifting, committing, every, eventsOf}
 use Rattle.trace.specs.Format.{Header, Trace, viewAt, accessOf, operationAt, operationsAt, rankAt, operationFits, operationsFit, whole, shiftLength, shiftAt, commitLength, commitOf, commitAt, recordAt, commitsWith, onRecord, entriesFrom, headerAt, withinLimits, traceOf, decode}
-use Rattle.trace.specs.Encode.{accessNumber, operationBytes, operationsBytes, viewBytes, eventBytes, eventsBytes, fileBody, encode}
-use Rattle.trace.proofs.Sizes.{length-operationBytes, length-operationsBytes, eventLength, length-eventBytes, eventsLength, length-fileBody, length-encode}
+use Rattle.trace.specs.Encode.{accessNumber, operationBytes, operationsBytes, viewBytes, eventBytes, eventsBytes, fileHead, encode}
+use Rattle.trace.proofs.Sizes.{length-operationBytes, length-operationsBytes, eventLength, length-eventBytes, eventsLength, length-eventsBytes, length-fileHead, length-encode}
 use Rattle.trace.proofs.Tests.{operationFits-is, withinLimits-is}
 use Rattle.trace.specs.WellFormed.{rank, FitsOperation, Rise, FitsShift, FitsCommit, FitsEvent}
 use Rattle.trace.proofs.WellFormed.{accessNumber-le-one, rising-length, FitsEvents, WellFormed}
@@ -187,23 +188,26 @@ module _ (s : List ℕ) where
   -- what the first twelve bytes say, and that the records stand behind them
   header-back : (t : Trace) → WellFormed t → length (encode t) ≤ maxBytes → Stands s 0 (encode t)
       → (leAt s 0 4 ≡ length (encode t)) × (leAt s 4 2 ≡ 8) × (leAt s 6 2 ≡ 1) × (headerAt s ≡ headerOf t) × Stands s minBytes (eventsBytes (t .keys) (t .events))
-  unfolding encode fileBody
+  unfolding encode fileHead
   header-back t w short stands =
       let size = length-encode t in
-      let body-size = length-fileBody t in
-      let from-header = stands-behind 4 _ _ 4 refl stands in
+      let body = eventsBytes (t .keys) (t .events) in
+      let body-size = length-eventsBytes (t .keys) (t .events) in
+      let head = fileHead (minBytes + length body) (t .keys) (t .clients) (length (t .events)) in
+      let from-start = stands-first head body stands in
+      let from-header = stands-behind 4 _ _ 4 refl from-start in
       let from-kind = stands-behind 2 _ _ 6 refl from-header in
       let from-keys = stands-behind 2 _ _ 8 refl from-kind in
       let from-clients = stands-behind 1 _ _ 9 refl from-keys in
       let from-count = stands-behind 1 _ _ 10 refl from-clients in
       let keys = read-first 1 _ _ (omega arith) from-keys in
       let clients = read-first 1 _ _ (omega arith) from-clients in
-      let records = read-first 2 _ _ (w .few-records) from-count in (
-        read-first 4 _ _ (omega arith) stands ∙ omega arith,
+      let records = read-fitting 2 _ (w .few-records) from-count in (
+        read-first 4 _ _ (omega arith) from-start ∙ omega arith,
         read-first 2 _ _ (lit< tt) from-header,
         read-first 2 _ _ (lit< tt) from-kind,
         λ i. record { keys = keys i; clients = clients i; records = records i },
-        stands-behind 2 _ _ 12 refl from-count,
+        stands-at (zero-add (length head) ∙ length-fileHead (minBytes + length body) (t .keys) (t .clients) (length (t .events))) (stands-second head body stands),
       )
 
   -- the trace that a header and records make, where the records mean its events

@@ -1,14 +1,15 @@
 -- How long the file of a trace is, record by record. Assumes nothing.
 use Prim.Native.Nat.{ℕ, _+_, _*_}
-use mathlib.Core.Path.{_≡_, refl, ap₂, _∙_}
+use mathlib.Core.Path.{_≡_, refl, ap, ap₂, _∙_}
 use mathlib.Core.List.{List, [], _∷_}
 use native.Mathlib.Omega.{arith}
 use lib.ListN.{length, length-append}
 use Rattle.endian.specs.Endian.{leBytes}
 use Rattle.endian.proofs.Laws.{length-leBytes, length-leBytes-append, length-pieces}
+use Rattle.store.specs.Limits.{minBytes}
 use Rattle.store.specs.Store.{View, Operation, Event, shift, commit}
 use Rattle.trace.specs.Format.{Trace, shiftLength, commitLength}
-use Rattle.trace.specs.Encode.{operationBytes, operationsBytes, viewBytes, eventBytes, eventsBytes, fileBody, encode}
+use Rattle.trace.specs.Encode.{operationBytes, operationsBytes, viewBytes, eventBytes, eventsBytes, fileHead, fileOf, encode}
 
 pub length-operationBytes : (o : Operation) → length (operationBytes o) ≡ 8
 unfolding operationBytes
@@ -46,11 +47,16 @@ unfolding eventsBytes eventsLength
 length-eventsBytes keys [] = refl
 length-eventsBytes keys (e ∷ es) = length-append (eventBytes keys e) (eventsBytes keys es) ∙ ap₂ _+_ (length-eventBytes keys e) (length-eventsBytes keys es)
 
--- four bytes of length, a header of eight, and the records
-pub length-fileBody : (t : Trace) → length (fileBody t) ≡ 8 + eventsLength (t .keys) (t .events)
-unfolding fileBody
-length-fileBody t = simp (length-leBytes-append, length-eventsBytes) (omega arith)
+-- four bytes of length and a header of eight
+pub length-fileHead : (whole keys clients records : ℕ) → length (fileHead whole keys clients records) ≡ minBytes
+unfolding fileHead
+length-fileHead whole keys clients records = simp (length-leBytes-append, length-leBytes)
 
-pub length-encode : (t : Trace) → length (encode t) ≡ 12 + eventsLength (t .keys) (t .events)
+-- and the bytes of the records
+pub length-fileOf : (keys clients records : ℕ) (body : List ℕ) → length (fileOf keys clients records body) ≡ minBytes + length body
+length-fileOf keys clients records body =
+    length-append (fileHead (minBytes + length body) keys clients records) body ∙ ap (λ n. n + length body) (length-fileHead (minBytes + length body) keys clients records)
+
+pub length-encode : (t : Trace) → length (encode t) ≡ minBytes + eventsLength (t .keys) (t .events)
 unfolding encode
-length-encode t = simp (length-leBytes-append, length-fileBody) (omega arith)
+length-encode t = length-fileOf (t .keys) (t .clients) (length (t .events)) (eventsBytes (t .keys) (t .events)) ∙ ap (λ n. minBytes + n) (length-eventsBytes (t .keys) (t .events))

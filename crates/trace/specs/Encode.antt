@@ -1,8 +1,9 @@
 -- A trace written as a file of kinds 1, 2 and 3 (01, The trace file). Assumes nothing.
-use Prim.Native.Nat.{ℕ, zero, suc, _+_, _*_}
+use Prim.Native.Nat.{ℕ, _+_}
 use mathlib.Core.List.{List, [], _∷_, _++_}
 use lib.ListN.{length}
 use Rattle.endian.specs.Endian.{leBytes, pieces}
+use Rattle.store.specs.Limits.{minBytes}
 use Rattle.store.specs.Store.{View, Access, read, write, Operation, Commit, Event, shift, commit}
 use Rattle.trace.specs.Format.{Trace, shiftLength, commitLength}
 
@@ -36,12 +37,18 @@ unfoldable pub eventsBytes : ℕ → List Event → List ℕ
 eventsBytes keys [] = []
 eventsBytes keys (e ∷ es) = eventBytes keys e ++ eventsBytes keys es
 
--- "Kind 1, header, length 8, first and only there: keys u8, clients u8, count u16 of records that follow", and the records
-unfoldable pub fileBody : Trace → List ℕ
-fileBody t =
-    leBytes 2 8 ++ (leBytes 2 1 ++ (leBytes 1 (t .keys) ++ (leBytes 1 (t .clients) ++ (leBytes 2 (length (t .events))
-    ++ eventsBytes (t .keys) (t .events)))))
+-- ---- the file, as its first 12 bytes and the bytes of its records, whoever lists them
 
--- "Bytes 0 to 3: length of the whole file, these four included. Then records"
+-- "Bytes 0 to 3: length of the whole file, these four included"; then "Kind 1, header, length 8, first and only there: keys u8, clients u8,
+-- count u16 of records that follow"
+unfoldable pub fileHead : ℕ → ℕ → ℕ → ℕ → List ℕ
+fileHead whole keys clients records =
+    leBytes 4 whole ++ (leBytes 2 8 ++ (leBytes 2 1 ++ (leBytes 1 keys ++ (leBytes 1 clients ++ leBytes 2 records))))
+
+-- "Then records": so many, with these bytes
+abbrev pub fileOf : ℕ → ℕ → ℕ → List ℕ → List ℕ
+fileOf keys clients records body = fileHead (minBytes + length body) keys clients records ++ body
+
+-- a trace, each of its records in full
 unfoldable pub encode : Trace → List ℕ
-encode t = leBytes 4 (4 + length (fileBody t)) ++ fileBody t
+encode t = fileOf (t .keys) (t .clients) (length (t .events)) (eventsBytes (t .keys) (t .events))
