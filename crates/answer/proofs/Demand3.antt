@@ -3,7 +3,6 @@ use Prim.Native.Nat.{ℕ}
 use mathlib.Core.Path.{_≡_, refl, sym, ap, _∙_, subst}
 use mathlib.Core.Option.{Option, some, none}
 use mathlib.Core.List.{List}
-use native.Mathlib.Omega.{arith}
 use Rattle.endian.specs.Endian.{Bytes}
 use Rattle.store.specs.Store.{Configuration, openingStore, opening}
 use Rattle.store.specs.Refusal.{Refusal}
@@ -11,6 +10,7 @@ use Rattle.store.proofs.Sound.{sound-opening}
 use Rattle.store.proofs.Run.{legal-run}
 use Rattle.trace.specs.Result.{Result, refused, taken, onTaken}
 use Rattle.trace.specs.Format.{Trace, decode}
+use Rattle.trace.proofs.Result.{refused-taken}
 use Rattle.trace.proofs.WellFormed.{WellFormed}
 use Rattle.trace.proofs.Decoded.{decoded-well-formed}
 use Rattle.trace.proofs.Fits.{well-formed-fits}
@@ -20,10 +20,6 @@ use Rattle.answer.proofs.Taken.{Taken}
 use Rattle.answer.proofs.Orders.{si-psi, si-cp, psi-cc, cp-cc, cc-mr, cc-mw, cc-ryw, cc-wfr, earliest-si}
 use Rattle.answer.proofs.Rings.{si-rings, ser-rings}
 use Rattle.answer.proofs.ReplayFile.{ser-replay}
-
--- a refusal is not a trace
-refused-taken : {A X : Type 0} {r : Refusal} {a : A} → _≡_ {A = Result A} (refused r) (taken a) → X
-refused-taken e = let z : _≡_ {A = ℕ} 0 1 = cc in absurd (omega arith)
 
 -- a trace that is taken has been read from its bytes, and none of codes 9 to 14 is due
 pub accepted-trace : (bytes : List ℕ) (t : Trace) → accept bytes ≡ taken t → (decode bytes ≡ taken t) × (meaningless t ≡ none)

@@ -1,4 +1,5 @@
 pub mod Examples
+pub mod Output
 pub mod Taken
 pub mod Orders
 pub mod Graph
@@ -7,3 +8,4 @@ pub mod FullView
 pub mod Replayed
 pub mod ReplayFile
 pub mod Demand3
+pub mod Written

@@ -12,7 +12,7 @@ use Rattle.trace.specs.Result.{Result, taken}
 use Rattle.trace.specs.Format.{Trace}
 use Rattle.levels.specs.Level.{Level, MR, MW, RYW, WFR, CC, UA, PSI, CP, SI, SER, Failure}
 use Rattle.answer.specs.Answer.{finalStore, accept, verdict}
-use Rattle.answer.specs.Replay.{replay}
+use Rattle.answer.specs.Replay.{replayTrace, replay}
 
 -- "A level fails at the number of the first commit that fails it; one that accepts counts as failing at the number of commits
 -- plus one."
@@ -31,11 +31,13 @@ Accepts l t = verdict l t ≡ none
 abbrev pub LinkOf : Store → LinkKind → CommitNumber → CommitNumber → Type 0
 LinkOf s kind a b = T (linked s kind a b)
 
--- what holds of a trace r that is the replay of a trace t
-pub record SameOutcome (t r : Trace) : Type 0 where
-  pub same-store : finalStore r ≡ finalStore t
-  pub same-image : image (finalStore r) ≡ image (finalStore t)
-  pub all-accept : (l : Level) → Accepts l r
+-- what holds of a file that is the replay of a trace t: it is taken, as the replay's own records; "give the same store and the same image byte for
+-- byte, and pass all ten"
+pub record SameOutcome (t : Trace) (file : List ℕ) : Type 0 where
+  pub taken-as : accept file ≡ taken (replayTrace t)
+  pub same-store : finalStore (replayTrace t) ≡ finalStore t
+  pub same-image : image (finalStore (replayTrace t)) ≡ image (finalStore t)
+  pub all-accept : (l : Level) → Accepts l (replayTrace t)
 
 -- what demand 3 says of a taken trace
 pub record Claim (t : Trace) : Type 0 where
@@ -59,7 +61,7 @@ pub record Claim (t : Trace) : Type 0 where
   pub ser-rings : Accepts SER t → (kind : LinkKind) (kinds : List LinkKind) (a : CommitNumber) → ¬ Ring (LinkOf (finalStore t)) kind kinds a
   -- "and the same commits in the same order, each made from a full view and left with one, are taken too, give the same store
   -- and the same image byte for byte, and pass all ten."
-  pub ser-replay : Accepts SER t → (r : Trace) × (accept (replay t) ≡ taken r) × SameOutcome t r
+  pub ser-replay : Accepts SER t → SameOutcome t (replay t)
 
 -- "Whatever trace is taken, all of this holds of it": of the bytes of any file
 abbrev pub Demand3 : List ℕ → Type 0

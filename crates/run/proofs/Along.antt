@@ -1,5 +1,5 @@
 -- How the run of a trace begins, goes on after a record, is refused at one, and ends. Assumes nothing.
-use Prim.Native.Nat.{ℕ, zero, suc, _+_, _-_, _≤_, _<_}
+use Prim.Native.Nat.{ℕ, suc, _+_, _-_, _≤_, _<_}
 use mathlib.Core.Path.{_≡_, refl, sym, ap, _∙_, subst, subst₂}
 use mathlib.Core.Option.{Option, some, none}
 use mathlib.Core.List.{List, [], _∷_}
@@ -7,18 +7,17 @@ use native.Mathlib.Omega.{arith}
 use native.Mathlib.Numerals.{add-one}
 use native.Mathlib.Decide.{ℕ-discrete}
 use Rattle.search.specs.Choose.{orElse}
-use Rattle.search.proofs.Choose.{need-ind}
 use Rattle.store.specs.Limits.{maxCommits, minBytes}
 use Rattle.store.specs.Store.{Configuration, openingStore, opening, nextNumber, Client, SessionNumber, Operation, Event}
 use Rattle.store.specs.Image.{ClientsFit}
 use Rattle.store.specs.Update.{update, step, viewBefore, storeAfter, final, firstAlong}
-use Rattle.store.specs.Refusal.{Refusal, refuse, refusesEvent}
+use Rattle.store.specs.Refusal.{Refusal, refusesEvent}
 use Rattle.store.proofs.Updated.{at-same, at-other}
 use Rattle.store.specs.Sound.{Sound, WithinKeys}
 use Rattle.store.specs.View.{FitsView}
 use Rattle.store.proofs.Sound.{sound-opening, sound-shift, sound-commit}
 use Rattle.store.proofs.Legal.{legal-shift, legal-commit}
-use Rattle.trace.specs.Result.{Result, refused, taken}
+use Rattle.trace.specs.Result.{taken}
 use Rattle.trace.specs.Entry.{Listed, Entry, shifting, committing, over, commitMeant, event, eventsOf}
 use Rattle.trace.specs.Format.{Header, commitsWith, entriesFrom}
 use Rattle.trace.proofs.InForm.{First}
@@ -27,10 +26,6 @@ use Rattle.growth.proofs.Made.{legal-made}
 use Rattle.growth.specs.Ordered.{Ordered}
 use Rattle.growth.proofs.Ordered.{ordered-opening, ordered-commit}
 use Rattle.run.specs.Along.{Along}
-
--- a refusal is not a value
-refused-taken : {A X : Type 0} {r : Refusal} {a : A} → _≡_ {A = Result A} (refused r) (taken a) → X
-refused-taken e = let z : _≡_ {A = ℕ} 0 1 = cc in absurd (omega arith)
 
 -- at the start all records are to come, and no level has failed
 pub along-start : (bytes : List ℕ) (h : Header) (rs : List Entry) → entriesFrom bytes h (h .records) minBytes 1 0 ≡ taken rs
@@ -47,12 +42,6 @@ along-start bytes h rs e = record {
   few = omega arith;
   clients-fit = λ t p l. absurd (omega arith);
 }
-
--- no record is left where none was counted
-pub nothing-left : (bytes : List ℕ) (h : Header) (at n commits : ℕ) (rest : List Entry) → entriesFrom bytes h zero at n commits ≡ taken rest → rest ≡ []
-unfolding entriesFrom
-nothing-left bytes h at n commits rest =
-    need-ind (λ (x : Result (List Entry)). x ≡ taken rest → rest ≡ []) _ (refused (refuse 5 (h .records))) (taken []) (λ z. refused-taken z) (λ t z. let same : [] ≡ rest = cc in sym same)
 
 -- how many commits there are once a record is done
 pub commits-after : (g : Configuration) (x : Entry) → step g (event g x) .store .commits ≡ commitsWith x (g .store .commits)

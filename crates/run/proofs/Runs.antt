@@ -24,7 +24,7 @@ use Rattle.trace.proofs.Decoded.{ReadAt, record-read}
 use Rattle.trace.specs.WellFormed.{FitsEntry}
 use Rattle.trace.proofs.Entries.{sound-fits}
 use Rattle.trace.proofs.Fits.{commit-fits}
-use Rattle.trace.proofs.InForm.{First, first-in-form, entries-first}
+use Rattle.trace.proofs.InForm.{First, first-in-form, entries-first, nothing-left}
 use Rattle.levels.specs.Level.{Level, Failure, failsEvent}
 use Rattle.state.specs.declared.Refusal.{Refusal}
 use Rattle.state.specs.Answers.{refusalOf}
@@ -37,7 +37,7 @@ use Rattle.commits.specs.Records.{ValuesFit, EventDone}
 use Rattle.run.specs.Along.{Along}
 use Rattle.run.specs.Ran.{Starts, Ended}
 use Rattle.run.specs.OneRecord.{Readable, Standing, Fitting}
-use Rattle.run.proofs.Along.{along-start, nothing-left, commits-after, along-refused, along-end, along-shift, along-commit}
+use Rattle.run.proofs.Along.{along-start, commits-after, along-refused, along-end, along-shift, along-commit}
 use Rattle.run.proofs.OneRecord.{record-readable}
 
 abbrev header : ℕ → ℕ → ℕ → Header
@@ -78,7 +78,7 @@ module _ {file : List ℕ} {n clients records : ℕ} {rs : List Entry} where
     pub run-ends : left ≡ 0 → Ended n (eventsOf (opening n) rs) made versions keys views seen sessions commits links verdicts
     run-ends none-left =
         let h = header n clients records in
-        let done = nothing-left file h at number (s .g .store .commits) (s .rest) (subst (λ (m : ℕ). entriesFrom file h m at number (s .g .store .commits) ≡ taken (s .rest)) none-left (s .along .read)) in
+        let done = nothing-left file h at number (s .g .store .commits) left (s .rest) none-left (s .along .read) in
         let (no-refusal, ends, verdicts-are) = along-end file h (eventsOf (opening n) rs) left at number (s .g) (s .rest) (s .fs) (s .along) done in
         record {
           none-refused = no-refusal;

@@ -31,3 +31,8 @@ maxBytes = 65536
 -- the image, "At most 16,960 bytes": its first 8, 8 for each commit, and for each key 4 and 16 for each of its versions
 abbrev pub maxImage : ℕ
 maxImage = 8 + 8 * maxCommits + maxKeys * (4 + 16 * perKey)
+
+-- the file of a replay, "at most 33,276 bytes" (02, E1): its first 12, and for each commit a shift (6, and 8 for each key) and a commit (10,
+-- 8 for each of at most two operations a key, and 8 for each key)
+abbrev pub maxReplay : ℕ
+maxReplay = minBytes + maxCommits * (16 + 32 * maxKeys)

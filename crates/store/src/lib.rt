@@ -4,7 +4,7 @@ ghost use mathlib.Core.Path.{_≡_};
 ghost use mathlib.Core.List.{[], _∷_};
 ghost use Prim.Native.Nat.{_+_, _*_};
 ghost use lib.ListN.{replicate};
-ghost use Rattle.store.specs.Limits.{maxKeys, maxClients, maxCommits, numbers, perKey, minBytes, maxBytes, maxImage};
+ghost use Rattle.store.specs.Limits.{maxKeys, maxClients, maxCommits, numbers, perKey, minBytes, maxBytes, maxImage, maxReplay};
 
 pub struct Store {
     // Of each version its value and writer; then of each its readers.
@@ -39,11 +39,13 @@ impl Store {
     pub const NUMBERS: usize = Store::COMMITS + 1;
     // An image is at most so long.
     pub const IMAGE: usize = 8 + 8 * Store::COMMITS + Store::KEYS * (4 + 16 * Store::VERSIONS);
+    // The file of a replay is at most so long.
+    pub const REPLAY: usize = Store::HEADER + Store::COMMITS * (16 + 32 * Store::KEYS);
 
     // The constants are the limits of specs/Limits.antt. Nothing calls this: it is here for its promise, which holds no longer where a limit
     // is changed in one of the two places alone.
-    pub fn limits() -> [usize; 8]
-        ensures { λ r. ⌜ r ≡ maxKeys ∷ maxClients ∷ maxCommits ∷ perKey ∷ numbers ∷ maxBytes ∷ minBytes ∷ maxImage ∷ [] ⌝ }
+    pub fn limits() -> [usize; 9]
+        ensures { λ r. ⌜ r ≡ maxKeys ∷ maxClients ∷ maxCommits ∷ perKey ∷ numbers ∷ maxBytes ∷ minBytes ∷ maxImage ∷ maxReplay ∷ [] ⌝ }
     {
         [
             Store::KEYS,
@@ -54,6 +56,7 @@ impl Store {
             Store::BYTES,
             Store::HEADER,
             Store::IMAGE,
+            Store::REPLAY,
         ]
     }
 

@@ -2,8 +2,7 @@
 use Prim.Native.Nat.{ℕ, suc, _+_, _-_, _≤_, _<_}
 use mathlib.Core.Path.{_≡_, refl, sym, ap, _∙_}
 use mathlib.Core.Bool.{true}
-use mathlib.Core.Logic.{_≢_}
-use mathlib.Core.List.{List, _∷_}
+use mathlib.Core.List.{List, [], _∷_}
 use native.Mathlib.Omega.{arith}
 use native.Mathlib.Numerals.{add-one}
 use lib.Dec.{leb, eqb, leb→le}
@@ -22,6 +21,7 @@ use Rattle.trace.specs.Meaning.{InFormAt, headerOf, AllRecordsSay, FormS
 use Rattle.trace.specs.declared.form.Header.{Header}
 use Rattle.trace.specs.declared.form.Form.{Form}
 use Rattle.trace.specs.declared.form.Form.the-variants as Forms
+use Rattle.trace.proofs.Result.{refused-taken, taken-injective, onTaken-taken}
 use Rattle.trace.proofs.Tests.{withinLimits-is}
 
 -- ---- answers that follow from answers
@@ -47,26 +47,15 @@ follows-onTaken x f = record { refusal = λ r e. rw e refl; value = λ a e. (f a
 
 -- ---- records that were read once, read again
 
-not-taken : {A : Type 0} {r : Refusal} {a : A} → refused r ≢ taken a
-not-taken e = let z : _≡_ {A = ℕ} 0 1 = cc in absurd (omega arith)
-
-taken-injective : {A : Type 0} {a b : A} → _≡_ {A = Result A} (taken a) (taken b) → a ≡ b
-taken-injective e = cc
-
-onTaken-taken : {A B : Type 0} (x : Result A) (f : A → Result B) {b : B} → onTaken x f ≡ taken b → (a : A) × (x ≡ taken a) × (f a ≡ taken b)
-unfolding onTaken
-onTaken-taken (refused r) f e = absurd (not-taken e)
-onTaken-taken (taken a) f e = (a, refl, e)
-
 onWhole-taken : {A : Type 0} (x : Entry) (next n commits : ℕ) (f : Entry → ℕ → ℕ → Result A) {a : A} → onRecord (whole x next) n commits f ≡ taken a
     → (commitsWith x commits ≤ maxCommits) × (f x next (commitsWith x commits) ≡ taken a)
 unfolding onRecord
-onWhole-taken x next n commits f e = let (few, rest) = need-taken (leb (commitsWith x commits) maxCommits) _ _ not-taken e in (leb→le _ _ few, rest)
+onWhole-taken x next n commits f e = let (few, rest) = need-taken (leb (commitsWith x commits) maxCommits) _ _ refused-taken e in (leb→le _ _ few, rest)
 
 onRecord-taken : {A : Type 0} (r : Format.Reading) (n commits : ℕ) (f : Entry → ℕ → ℕ → Result A) {a : A} → onRecord r n commits f ≡ taken a
     → (x : Entry) × (next : ℕ) × (r ≡ whole x next)
 unfolding onRecord
-onRecord-taken (misshapen code) n commits f e = absurd (not-taken e)
+onRecord-taken (misshapen code) n commits f e = refused-taken e
 onRecord-taken (whole x next) n commits f e = (x, next, refl)
 
 -- record x, after which the next one starts at `next`, is the first of the records rs, and the others are read from there on
@@ -97,6 +86,13 @@ module _ (s : List ℕ) (h : Format.Header) (at index commits left : ℕ) {rs : 
       let (few, rest) = onWhole-taken x next index commits go-on (ap (λ y. onRecord y index commits go-on) is ∙ first-taken) in
       let (others, others-read, all) = onTaken-taken (entriesFrom s h (left - 1) next (suc index) (commitsWith x commits)) _ rest in
       record { others = others; is-first = sym (taken-injective all); few-commits = few; others-read = rw (add-one index) others-read }
+
+-- no record is left where none was counted
+pub nothing-left : (s : List ℕ) (h : Format.Header) (at index commits left : ℕ) (rs : List Entry) → left ≡ 0 → entriesFrom s h left at index commits ≡ taken rs → rs ≡ []
+unfolding entriesFrom
+nothing-left s h at index commits left rs none read =
+    let (ended, same) = need-taken (eqb at (length s)) _ _ refused-taken (ap (λ n. entriesFrom s h n at index commits) (sym none) ∙ read) in
+    sym (taken-injective same)
 
 -- ---- the file
 
