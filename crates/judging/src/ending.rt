@@ -1,6 +1,7 @@
 // The end of the call, where a trace is taken: the image is written and the verdicts are answered, or the image buffer is too short for the image.
 use crate::Answer;
 use state::Refusal;
+use trace::form::Header;
 use verdicts::told::Verdicts;
 ghost use mathlib.Core.Path.{_≡_};
 ghost use mathlib.Core.List.{List};
@@ -13,23 +14,23 @@ ghost use Rattle.state.specs.Room.{VersionsRoom, KeysRoom, CommitsRoom};
 ghost use Rattle.taking.specs.Taking.{Takes};
 ghost use Rattle.judging.specs.Answers.{answerOf, toldAnswer};
 
-// The answer for a taken trace of so many keys, records and commits, with its verdicts; code 15: "image buffer shorter than the image".
+// The answer for a taken trace with its header, of so many commits, with its verdicts; code 15: "image buffer shorter than the image".
 pub fn finish(
     buffer: &mut [u8],
     versions: &[u64],
     keys: &[u64],
     commits: &[u64],
-    n: usize,
-    records: usize,
+    header: Header,
     count: usize,
     verdicts: Verdicts,
 ) -> Answer
-    requires { ⌜ VersionsRoom (now versions) × KeysRoom (now keys) × CommitsRoom (now commits) × (n ≤ maxKeys) × (count ≤ maxCommits) ⌝ }
+    requires { ⌜ VersionsRoom (now versions) × KeysRoom (now keys) × CommitsRoom (now commits) × (header .keys ≤ maxKeys) × (count ≤ maxCommits) ⌝ }
     ensures { λ r. ⌜
-        ((bytes : List ℕ) (t : Trace) → Takes bytes t (now (versions .entry)) (now (keys .entry)) (now (commits .entry)) n records count verdicts
+        ((bytes : List ℕ) (t : Trace) → Takes bytes t (now (versions .entry)) (now (keys .entry)) (now (commits .entry)) header count verdicts
         → (answerOf r ≡ toldAnswer bytes (length (now (buffer .entry)))) × (now (buffer .exit) ≡ imageAfter bytes (now (buffer .entry))))
         ⌝ }
 {
+    let n = header.keys;
     let whole = image::size(keys, n, count);
     if buffer.len() < whole {
         return Answer::Refused(Refusal::of_record(15, 0));
@@ -37,7 +38,7 @@ pub fn finish(
     image::write(buffer, versions, keys, commits, n, count, whole);
     Answer::Judged {
         verdicts,
-        records,
+        records: header.records,
         commits: count,
         image_length: whole,
     }

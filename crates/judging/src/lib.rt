@@ -36,8 +36,7 @@ pub fn judge(file: &[u8], buffer: &mut [u8]) -> Answer
     match taking::take_file(file, &mut versions, &mut keys, &mut commits) {
         Taking::Refused(refusal) => Answer::Refused(refusal),
         Taking::Taken {
-            keys: n,
-            records,
+            header,
             commits: count,
             verdicts,
         } => ending::finish(
@@ -45,8 +44,7 @@ pub fn judge(file: &[u8], buffer: &mut [u8]) -> Answer
             &versions,
             &keys,
             &commits,
-            n,
-            records,
+            header,
             count,
             verdicts,
         ),

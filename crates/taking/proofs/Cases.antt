@@ -4,6 +4,7 @@ use mathlib.Core.Path.{_≡_, subst}
 use mathlib.Core.List.{List}
 use Rattle.trace.specs.Result.{refused}
 use Rattle.trace.specs.Format.{Trace}
+use Rattle.trace.specs.declared.form.Header.{Header}
 use Rattle.answer.specs.Answer.{accept}
 use Rattle.state.specs.Answers.{refusalOf}
 use Rattle.state.specs.declared.Refusal.{Refusal}
@@ -17,6 +18,6 @@ module _ (bytes versions keys commits : List ℕ) {r : Taking} (says : TakingSay
   unfolding TakingSays
   says-refused e = subst (TakingSays bytes versions keys commits) e says
 
-  pub says-taken : {n records count : ℕ} {vs : Verdicts} → r ≡ Taken n records count vs → (t : Trace) × Takes bytes t versions keys commits n records count vs
+  pub says-taken : {h : Header} {count : ℕ} {vs : Verdicts} → r ≡ Taken h count vs → (t : Trace) × Takes bytes t versions keys commits h count vs
   unfolding TakingSays
   says-taken e = subst (TakingSays bytes versions keys commits) e says

@@ -99,9 +99,10 @@ module _ {s : List ℕ} (b : Bytes s) {h : Header} (w : WholeFile s h) {count : 
 
   -- the trace is taken: the arrays keep its last store, and the verdicts told are its own
   pub takes : {vs : Verdicts} → ((fs : Level → Option Failure) → KeepsVerdicts fs verdicts → verdictsOf vs ≡ tellAll fs)
-      → Takes s (traceIn w) versions keys commits (h .keys) (h .records) count vs
+      → Takes s (traceIn w) versions keys commits h count vs
   unfolding firstFailure
   takes told = record {
+    in-form = w;
     accepted = accepted s (traceIn w) (w .decoded) (e .none-refused);
     in-versions = e .keeps .in-versions;
     in-keys = e .keeps .in-keys;
@@ -109,7 +110,6 @@ module _ {s : List ℕ} (b : Bytes s) {h : Header} (w : WholeFile s h) {count : 
     all-keys = e .keys-are;
     all-records = length-eventsOf (opening (h .keys)) (w .entries) ∙ records-read b w .counted;
     all-commits = e .counted;
-    few-keys = w .few-keys;
     few-commits = few-made;
     sound = e .sound .store;
     clients-fit = e .clients-fit;

@@ -3,11 +3,13 @@ use Prim.Native.Nat.{ℕ, _≤_}
 use mathlib.Core.Path.{_≡_}
 use mathlib.Core.List.{List}
 use lib.ListN.{length, replicate}
-use Rattle.store.specs.Limits.{maxKeys, maxCommits}
+use Rattle.store.specs.Limits.{maxCommits}
 use Rattle.store.specs.Sound.{SoundStore}
 use Rattle.store.specs.Image.{ClientsFit}
 use Rattle.trace.specs.Result.{refused, taken}
 use Rattle.trace.specs.Format.{Trace}
+use Rattle.trace.specs.Meaning.{WholeFile}
+use Rattle.trace.specs.declared.form.Header.{Header}
 use Rattle.answer.specs.Answer.{finalStore, accept, verdict}
 use Rattle.state.specs.Places.{versionsLength, keysLength, commitsLength}
 use Rattle.state.specs.Keeps.{KeepsVersions, KeepsKeys, KeepsCommits}
@@ -23,17 +25,17 @@ pub record Opened (versions keys commits : List ℕ) : Type 0 where
   pub in-keys : keys ≡ replicate keysLength 1
   pub in-commits : commits ≡ replicate commitsLength 0
 
--- the bytes are taken as trace t, of so many records, and the arrays keep its last store, of n keys and `count` commits: what the ending of a
+-- the bytes are a file in form, with its header h, and are taken as trace t; the arrays keep its last store, of `count` commits: what the ending of a
 -- call needs to know
-pub record Takes (bytes : List ℕ) (t : Trace) (versions keys commits : List ℕ) (n records count : ℕ) (vs : Verdicts) : Type 0 where
+pub record Takes (bytes : List ℕ) (t : Trace) (versions keys commits : List ℕ) (h : Header) (count : ℕ) (vs : Verdicts) : Type 0 where
+  pub in-form : WholeFile bytes h
   pub accepted : accept bytes ≡ taken t
   pub in-versions : KeepsVersions (finalStore t) versions
   pub in-keys : KeepsKeys (finalStore t) keys
   pub in-commits : KeepsCommits (finalStore t) commits
-  pub all-keys : finalStore t .keys ≡ n
-  pub all-records : length (t .events) ≡ records
+  pub all-keys : finalStore t .keys ≡ h .keys
+  pub all-records : length (t .events) ≡ h .records
   pub all-commits : finalStore t .commits ≡ count
-  pub few-keys : n ≤ maxKeys
   pub few-commits : count ≤ maxCommits
   pub sound : SoundStore (finalStore t)
   pub clients-fit : ClientsFit (finalStore t)
@@ -43,4 +45,4 @@ pub record Takes (bytes : List ℕ) (t : Trace) (versions keys commits : List �
 -- what an answer says of the bytes of a file
 unfoldable pub TakingSays : List ℕ → List ℕ → List ℕ → List ℕ → Taking → Type 0
 TakingSays bytes versions keys commits (Refused r) = accept bytes ≡ refused (refusalOf r)
-TakingSays bytes versions keys commits (Taken n records count vs) = (t : Trace) × Takes bytes t versions keys commits n records count vs
+TakingSays bytes versions keys commits (Taken h count vs) = (t : Trace) × Takes bytes t versions keys commits h count vs

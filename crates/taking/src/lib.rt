@@ -14,12 +14,11 @@ ghost use Rattle.store.specs.Limits.{minBytes, maxBytes};
 ghost use Rattle.trace.specs.Meaning.{WholeFile};
 ghost use Rattle.taking.specs.Taking.{Opened, TakingSays};
 
-// What a file comes to: a refusal; or a trace of so many keys, records and commits, with the verdicts of the levels.
+// What a file comes to: a refusal; or a trace with its header and so many commits, and the verdicts of the levels.
 pub enum Taking {
     Refused(Refusal),
     Taken {
-        keys: usize,
-        records: usize,
+        header: Header,
         commits: usize,
         verdicts: Verdicts,
     },
@@ -64,8 +63,7 @@ fn take_records(
     match ran {
         Ran::Refused(refusal) => Taking::Refused(refusal),
         Ran::Done { commits: count } => Taking::Taken {
-            keys: h.keys,
-            records: h.records,
+            header: h,
             commits: count,
             verdicts: verdicts_from(&noted),
         },

@@ -42,8 +42,8 @@ take-file-requires c κs = search needs
 enum-known-refusal : tie.Need-enum-known-refusal
 enum-known-refusal c = search needs
 
-enum-known-n : tie.Need-enum-known-n
-enum-known-n c = search needs
+enum-known-header : tie.Need-enum-known-header
+enum-known-header c = search needs
 
 slice-aggregate-finish : tie.Need-slice-aggregate-finish
 slice-aggregate-finish c = search needs
@@ -56,8 +56,8 @@ slice-aggregate-finish-3 c = search needs
 
 finish-requires : tie.Need-finish-requires
 finish-requires c κs =
-    let h = says-taken _ _ _ _ (lent c .take-file .ensures) (c .before .before .before .before .before .n .given .1) .1 in
-    (h .in-versions .room, h .in-keys .room, h .in-commits .room, h .few-keys, h .few-commits)
+    let h = says-taken _ _ _ _ (lent c .take-file .ensures) (c .before .before .before .before .before .header .given .1) .1 in
+    (h .in-versions .room, h .in-keys .room, h .in-commits .room, h .in-form .few-keys, h .few-commits)
 
 returns : tie.Need-returns
 returns c =
@@ -71,7 +71,7 @@ same-length c = search needs
 returns-2 : tie.Need-returns-2
 returns-2 c =
     let ended = c .before .before in
-    let h = says-taken _ _ _ _ (lent (ended .before) .take-file .ensures) (ended .before .before .before .before .before .before .n .given .1) in
+    let h = says-taken _ _ _ _ (lent (ended .before) .take-file .ensures) (ended .before .before .before .before .before .before .header .given .1) in
     let a = ended .finish .ensures _ (h .0) (h .1) in
     (a .0, (a .1, (image-fits _ (bytes (lent (ended .before))), demand3 _ (bytes (lent (ended .before))))))
 
@@ -85,7 +85,7 @@ judge-spec =
     slice-aggregate-take-file-3
     take-file-requires
     enum-known-refusal
-    enum-known-n
+    enum-known-header
     slice-aggregate-finish
     slice-aggregate-finish-2
     slice-aggregate-finish-3
