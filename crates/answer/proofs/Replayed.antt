@@ -22,7 +22,7 @@ use Rattle.store.proofs.Sound.{sound-update}
 use Rattle.store.proofs.Run.{FitsAll, LegalRun, done, shifts, commits, sound-shifts, sound-commits, Each, commitsIn}
 use Rattle.levels.specs.Level.{Level, SER, clausesOf}
 use Rattle.levels.proofs.Levels.{Passes, every-clause, all-say}
-use Rattle.answer.specs.Replay.{fullView, fullShift, fullCommit, replayed, replayEvents}
+use Rattle.answer.specs.Replay.{fullView, fullShift, fullCommit, replayStep, replayEvents}
 use Rattle.answer.proofs.FullView.{HoldsAll, full-holds-all, full-view, same-newest}
 
 -- ---- what the store after a commit owes to the view
@@ -47,6 +47,10 @@ update-same s u v c e = λ i. record {
 }
 
 -- ---- one commit
+
+-- the configuration after the two records of a commit's replay
+abbrev pub replayed : Configuration → Commit → Configuration
+replayed g c = step (step g (fullShift g c)) (commit (fullCommit g c))
 
 -- what the replay of a commit comes to on r, where it was itself made on g
 pub record ReplaysCommit (g r : Configuration) (c : Commit) : Type 0 where
@@ -179,7 +183,7 @@ pub record Replays (g r : Configuration) (es : List Event) : Type 0 where
 -- from equal stores on, by the records in turn
 pub replays : (g r : Configuration) (es : List Event) → g .store ≡ r .store → Sound g → Sound r → nextNumber (g .store) + commitsIn es ≤ numbers
     → LegalRun g es → Each (Passes SER) g es → Replays g r es
-unfolding replayEvents final commitsIn step update
+unfolding replayStep replayEvents final commitsIn step update
 replays g r [] same h h′ few done p = record { fits = tt; legal = done; passes = λ l. tt; same-store = same }
 replays g r (shift d u ∷ es) same h h′ few (shifts f l n) p =
     let rest = replays (step g (shift d u)) r es same (sound-shifts h l) h′ few n p in
@@ -196,7 +200,7 @@ replays g r (commit c ∷ es) same h h′ few (commits f l n) p =
 
 -- the replay has as many commits
 pub replay-commits : (r : Configuration) (es : List Event) → commitsIn (replayEvents r es) ≡ commitsIn es
-unfolding replayEvents commitsIn
+unfolding replayStep replayEvents final commitsIn
 replay-commits r [] = refl
 replay-commits r (shift d u ∷ es) = replay-commits r es
 replay-commits r (commit c ∷ es) = ap suc (replay-commits (replayed r c) es)

@@ -1,9 +1,9 @@
 -- "The replay of a trace" (01, The words of demand 3), as a file. Assumes nothing.
 use Prim.Native.Nat.{ℕ}
-use mathlib.Core.List.{List, [], _∷_}
+use mathlib.Core.List.{List, [], _∷_, _++_}
 use Rattle.sets.specs.Set.{below}
 use Rattle.store.specs.Store.{View, Store, Configuration, opening, count, Commit, Event, shift, commit}
-use Rattle.store.specs.Update.{step, storeAfter}
+use Rattle.store.specs.Update.{step, storeAfter, final}
 use Rattle.trace.specs.Format.{Trace}
 use Rattle.trace.specs.Encode.{encode}
 
@@ -24,15 +24,15 @@ fullCommit g c = record {
   viewAfter = fullView (storeAfter (step g (fullShift g c)) c);
 }
 
--- the configuration after the two records of a commit's replay
-abbrev pub replayed : Configuration → Commit → Configuration
-replayed g c = step (step g (fullShift g c)) (commit (fullCommit g c))
+-- what the replay has for a record: both for a commit; "The old shifts are left out"
+unfoldable pub replayStep : Configuration → Event → List Event
+replayStep g (shift d u) = []
+replayStep g (commit c) = fullShift g c ∷ commit (fullCommit g c) ∷ []
 
--- "For each commit in order .. The old shifts are left out"
+-- "For each commit in order", each on what the replay so far has left
 unfoldable pub replayEvents : Configuration → List Event → List Event
 replayEvents g [] = []
-replayEvents g (shift d u ∷ es) = replayEvents g es
-replayEvents g (commit c ∷ es) = fullShift g c ∷ commit (fullCommit g c) ∷ replayEvents (replayed g c) es
+replayEvents g (e ∷ es) = replayStep g e ++ replayEvents (final g (replayStep g e)) es
 
 -- "The replay of a trace has the same keys and clients."
 unfoldable pub replayTrace : Trace → Trace
