@@ -75,7 +75,24 @@ leBytes-mod (suc m) v =
     rw (mod-lowest m v, digits-mod high {m = 256} {r = v % 256} byte, digits-div high {m = 256} {r = v % 256} byte)
     (ap (λ (l : List ℕ). v % 256 ∷ l) (leBytes-mod m (v / 256)))
 
+-- a number of m bytes and one of k bytes are a number of m + k bytes
+pub leBytes-joined : (m k low high v : ℕ) → low < 256 ^ m → v ≡ high * 256 ^ m + low → leBytes (m + k) v ≡ leBytes m low ++ leBytes k high
+leBytes-joined m k low high v fits e =
+    let below : v % 256 ^ m ≡ low = ap (λ x. x % 256 ^ m) e ∙ digits-mod high fits in
+    let above : v / 256 ^ m ≡ high = ap (λ x. x / 256 ^ m) e ∙ digits-div high fits in
+    leBytes-add m k v ∙ ap (λ l. l ++ leBytes k (v / 256 ^ m)) (sym (leBytes-mod m v) ∙ ap (leBytes m) below) ∙ ap (λ x. leBytes m low ++ leBytes k x) above
+
+-- two bytes are a number of two bytes
+pub leBytes-counts : (low high : ℕ) → low < 256 → leBytes 2 (low + 256 * high) ≡ leBytes 1 low ++ leBytes 1 high
+leBytes-counts low high fits = leBytes-joined 1 1 low high (low + 256 * high) fits (omega arith)
+
 -- ---- what is read
+
+-- a number that was read is written as its first m bytes and the k behind them
+pub leBytes-leAt-add : (s : List ℕ) (m k at place : ℕ) → leAt s at m < 256 ^ m → at + m ≡ place
+    → leBytes (m + k) (leAt s at (m + k)) ≡ leBytes m (leAt s at m) ++ leBytes k (leAt s place k)
+leBytes-leAt-add s m k at place fits e =
+    rw (← e) (leBytes-joined m k (leAt s at m) (leAt s (at + m) k) (leAt s at (m + k)) fits (leAt-add s m k at ∙ omega arith))
 
 -- n bytes are a number below 256 ^ n
 pub leAt-lt : (s : List ℕ) → Bytes s → (n at : ℕ) → leAt s at n < 256 ^ n
@@ -118,6 +135,12 @@ pub bytes-pieces : (n : ℕ) (f : ℕ → List ℕ) → ((k : ℕ) → Bytes (f 
 unfolding pieces
 bytes-pieces zero f h i = bytes-none i
 bytes-pieces (suc n) f h i = bytes-append (pieces n f) (f n) (bytes-pieces n f h) (h n) i
+
+-- the first of them, and the others
+pub pieces-first : (n : ℕ) (f : ℕ → List ℕ) → pieces (suc n) f ≡ f 0 ++ pieces n (λ k. f (suc k))
+unfolding pieces
+pieces-first zero f = sym (append-nil (f 0))
+pieces-first (suc n) f = ap (λ (l : List ℕ). l ++ f (suc n)) (pieces-first n f) ∙ append-assoc (f 0) (pieces n (λ k. f (suc k))) (f (suc n))
 
 one-piece-more : (n k : ℕ) (f : ℕ → List ℕ) (rest : List ℕ) → pieces n f ≡ pieces k f ++ (f k ++ rest) → pieces (suc n) f ≡ pieces k f ++ (f k ++ (rest ++ f n))
 unfolding pieces

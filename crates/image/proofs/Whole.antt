@@ -5,12 +5,11 @@ use mathlib.Core.List.{List, _++_, append-assoc}
 use native.Mathlib.Omega.{arith}
 use lib.ListN.{length, length-append}
 use Rattle.endian.specs.Endian.{leBytes, putAt, pieces}
-use Rattle.endian.proofs.Laws.{length-leBytes}
+use Rattle.endian.proofs.Laws.{length-leBytes, leBytes-counts}
 use Rattle.endian.proofs.Put.{put-next}
 use Rattle.store.specs.Store.{Store}
 use Rattle.store.specs.Image.{commitBytes, keyBytes, imageBody, image}
 use Rattle.image.specs.Parts.{headBytes}
-use Rattle.image.proofs.Words.{leBytes-counts}
 use Rattle.image.proofs.Sizes.{length-commits, length-image}
 
 -- ---- the first 8 bytes

@@ -1,13 +1,12 @@
 -- The image's rows as the words of the judge's arrays: two numbers in a word are their bytes, one after the other. Assumes nothing.
-use Prim.Native.Nat.{ℕ, suc, _+_, _*_, _/_, _%_, _^_, _≤_, _<_}
-use mathlib.Core.Path.{_≡_, refl, sym, ap, _∙_}
+use Prim.Native.Nat.{ℕ, suc, _+_, _^_, _≤_, _<_}
+use mathlib.Core.Path.{_≡_, refl, ap, _∙_}
 use mathlib.Core.List.{List, _++_, append-assoc}
 use native.Mathlib.Omega.{arith}
 use native.Mathlib.Numerals.{add-one}
-use lib.Arith.{digits-mod, digits-div}
 use lib.ListN.{getD}
 use Rattle.endian.specs.Endian.{leBytes}
-use Rattle.endian.proofs.Laws.{leBytes-add, leBytes-mod}
+use Rattle.endian.proofs.Laws.{leBytes-joined}
 use Rattle.store.specs.Limits.{maxCommits}
 use Rattle.store.specs.Store.{CommitNumber, Version, Store, count, version}
 use Rattle.store.specs.Image.{versionBytes, commitBytes, ClientsFit}
@@ -15,20 +14,9 @@ use Rattle.store.specs.Sound.{SoundStore}
 use Rattle.state.specs.Places.{packed, headPlace, readersPlace}
 use Rattle.state.specs.Keeps.{KeepsVersions, KeepsCommits}
 
--- a number of m bytes and one of k bytes are a number of m + k bytes
-pub leBytes-joined : (m k low high v : ℕ) → low < 256 ^ m → v ≡ high * 256 ^ m + low → leBytes (m + k) v ≡ leBytes m low ++ leBytes k high
-leBytes-joined m k low high v fits e =
-    let below : v % 256 ^ m ≡ low = ap (λ x. x % 256 ^ m) e ∙ digits-mod high fits in
-    let above : v / 256 ^ m ≡ high = ap (λ x. x / 256 ^ m) e ∙ digits-div high fits in
-    leBytes-add m k v ∙ ap (λ l. l ++ leBytes k (v / 256 ^ m)) (sym (leBytes-mod m v) ∙ ap (leBytes m) below) ∙ ap (λ x. leBytes m low ++ leBytes k x) above
-
 -- a byte and three zeros
 pub leBytes-byte : (v : ℕ) → v < 256 → leBytes 4 v ≡ leBytes 1 v ++ leBytes 3 0
 leBytes-byte v fits = leBytes-joined 1 3 v 0 v fits (omega arith)
-
--- "keys u8, commits u8"
-pub leBytes-counts : (n commits : ℕ) → n < 256 → leBytes 2 (n + 256 * commits) ≡ leBytes 1 n ++ leBytes 1 commits
-leBytes-counts n commits fits = leBytes-joined 1 1 n commits (n + 256 * commits) fits (omega arith)
 
 leBytes-packed : (low high : ℕ) → low < 2 ^ 32 → leBytes 8 (packed low high) ≡ leBytes 4 low ++ leBytes 4 high
 leBytes-packed low high fits = leBytes-joined 4 4 low high (packed low high) fits (omega arith)
