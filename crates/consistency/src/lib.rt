@@ -7,10 +7,11 @@ ghost use lib.ListN.{length};
 ghost use Rattle.endian.specs.Endian.{putAt};
 ghost use Rattle.answer.specs.Answer.{imageAfter, ImageFits};
 ghost use Rattle.answer.specs.Demand3.{Demand3};
+ghost use Rattle.answer.specs.Written.{replayAnswer, replayAfter, ReplayFits, ReadsBack};
 ghost use Rattle.judging.specs.Answers.{toldAnswer};
 ghost use Rattle.report.specs.Report.{reportText};
 ghost use Rattle.report.specs.Longest.{longestReport};
-ghost use Rattle.words.specs.Layout.{noRoom, answerLength, answerWords, codeOf};
+ghost use Rattle.words.specs.Layout.{noRoom, refusalLength, replayWords, answerLength, answerWords, codeOf};
 
 // Judges a trace file: ten verdicts, and the image of its store at the start of `image`; or a refusal with codes 1 to 15, and `image` as it came.
 // Where there is no room for the words nothing is judged. No file has an image longer than `maxImage` bytes: with such a buffer there is no code 15.
@@ -33,6 +34,31 @@ pub extern "C" fn judge_file(file: &[u8], image: &mut [u8], out: &mut [u64]) -> 
         return words::NO_ROOM;
     }
     words::put_answer(out, judging::judge(file, image))
+}
+
+// Writes the replay of a trace file (02, E1) as a file at the start of `buffer`: its commits in their order, each made from a full view and left with one. Or
+// a refusal with codes 1 to 14; 16, where serialisability does not accept the trace; 17, where `buffer` is shorter than the file; and `buffer` as it
+// came. What was written reads back with the same store and image, and all levels accept it. No replay is longer than `maxReplay` bytes. Where there is no
+// room for the words of a refusal nothing is done.
+#[no_mangle]
+pub extern "C" fn replay_file(file: &[u8], buffer: &mut [u8], out: &mut [u64]) -> u64
+    ensures room { λ r. ⌜
+        (length (now (out .entry)) < refusalLength
+        → (r ≡ noRoom) × (now (out .exit) ≡ now (out .entry)) × (now (buffer .exit) ≡ now (buffer .entry)))
+        ⌝ }
+    ensures answer { λ r. ⌜
+        (refusalLength ≤ length (now (out .entry))
+        → (r ≡ codeOf (replayAnswer (now (file .entry)) (length (now (buffer .entry)))))
+        × (now (out .exit) ≡ putAt (now (out .entry)) 0 (replayWords (replayAnswer (now (file .entry)) (length (now (buffer .entry))))))
+        × (now (buffer .exit) ≡ replayAfter (now (file .entry)) (now (buffer .entry)))
+        × ReadsBack (now (file .entry)) (length (now (buffer .entry))) (now (buffer .exit)))
+        ⌝ }
+    ensures longest { λ _. ⌜ ReplayFits (now (file .entry)) ⌝ }
+{
+    if out.len() < words::REFUSAL {
+        return words::NO_ROOM;
+    }
+    words::put_replay(out, replaying::write(file, buffer))
 }
 
 // The report on a trace file as text, at the start of `text`, and its length; `image` is left as `judge_file` leaves it. Where `text` is shorter than the

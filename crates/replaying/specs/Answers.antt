@@ -1,8 +1,9 @@
 -- What the answer of the call means, and what its ending is given. Assumes nothing.
-use Prim.Native.Nat.{ℕ}
+use Prim.Native.Nat.{ℕ, _≤_}
 use mathlib.Core.Path.{_≡_}
 use mathlib.Core.List.{List}
 use Rattle.search.specs.Choose.{mapSome}
+use Rattle.store.specs.Limits.{maxCommits}
 use Rattle.trace.specs.Result.{Result, refused, taken}
 use Rattle.trace.specs.Format.{Trace}
 use Rattle.trace.specs.Meaning.{WholeFile}
@@ -26,4 +27,5 @@ pub record Ending (bytes : List ℕ) (h : Header) (count : ℕ) (vs : Verdicts) 
   pub in-form : WholeFile bytes h
   pub accepted : accept bytes ≡ taken trace
   pub all-commits : finalStore trace .commits ≡ count
+  pub few-commits : count ≤ maxCommits
   pub told : verdictOf (vs .ser) ≡ mapSome tell (verdict SER trace)

@@ -2,7 +2,7 @@
 // answer. A file is taken as `judge` takes it; what is written costs two more passes over its records.
 mod ending; // ending.rt: the answer for a trace that is taken
 mod records; // records.rt: the records of the replay, and how long they are
-mod full; // full.rt: the masks of a full view, as commits go by
+mod view; // view.rt: the masks of a full view, as commits go by
 
 use state::Refusal;
 use store::Store;
@@ -19,7 +19,7 @@ pub enum Replay {
 }
 
 // The answer for the bytes of a file, whatever they are; where a file was written, it stands at the start of the buffer.
-pub fn replay(file: &[u8], buffer: &mut [u8]) -> Replay
+pub fn write(file: &[u8], buffer: &mut [u8]) -> Replay
     ensures answer { λ r. ⌜ replayOf r ≡ replayAnswer (now (file .entry)) (length (now (buffer .entry))) ⌝ }
     ensures written { λ _. ⌜ now (buffer .exit) ≡ replayAfter (now (file .entry)) (now (buffer .entry)) ⌝ }
     ensures back { λ _. ⌜ ReadsBack (now (file .entry)) (length (now (buffer .entry))) (now (buffer .exit)) ⌝ }

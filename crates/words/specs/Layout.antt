@@ -32,6 +32,11 @@ abbrev pub wordsOf : {A : Type 0} → (A → List ℕ) → Result A → List ℕ
 wordsOf found (refused r) = refusalWords r
 wordsOf found (taken a) = 0 ∷ found a
 
+-- ---- `replay_file`: the length of the file that was written
+
+abbrev pub replayWords : Result ℕ → List ℕ
+replayWords r = wordsOf (λ n. n ∷ []) r
+
 -- ---- `judge_file`
 
 -- clause, record, key and version of a level's first failure, and four zeros where it accepts

@@ -3,6 +3,7 @@
 mod judged; // judged.rt: the words of the ten verdicts
 
 use judging::Answer;
+use replaying::Replay;
 use state::Refusal;
 ghost use mathlib.Core.Path.{_≡_};
 ghost use mathlib.Core.List.{[], _∷_};
@@ -11,10 +12,14 @@ ghost use lib.ListN.{length};
 ghost use Rattle.endian.specs.Endian.{putAt};
 ghost use Rattle.state.specs.Answers.{refusalOf};
 ghost use Rattle.judging.specs.Answers.{answerOf};
-ghost use Rattle.words.specs.Layout.{refusalLength, refusalWords, answerLength, answerWords, codeOf};
+ghost use Rattle.replaying.specs.Answers.{replayOf};
+ghost use Rattle.words.specs.Layout.{refusalLength, refusalWords, replayWords, answerLength, answerWords, codeOf};
 
 // The code of a call that has no room for the words of its answer.
 pub const NO_ROOM: u64 = 255;
+
+// The words of a refusal, of whatever call.
+pub const REFUSAL: usize = 5;
 
 // The words of an answer of `judge`.
 pub const ANSWER: usize = 4 + 4 * verdicts::LEVELS;
@@ -32,6 +37,21 @@ fn put_refusal(out: &mut [u64], r: Refusal) -> u64
     out[3] = version.0 as u64;
     out[4] = 0;
     r.code as u64
+}
+
+// The answer of `replaying::write`.
+pub fn put_replay(out: &mut [u64], a: Replay) -> u64
+    requires { ⌜ refusalLength ≤ length (now out) ⌝ }
+    ensures { λ c. ⌜ (c ≡ codeOf (replayOf a)) × (now (out .exit) ≡ putAt (now (out .entry)) 0 (replayWords (replayOf a))) ⌝ }
+{
+    match a {
+        Replay::Refused(refusal) => put_refusal(out, refusal),
+        Replay::Written(size) => {
+            out[0] = 0;
+            out[1] = size as u64;
+            0
+        }
+    }
 }
 
 // The answer of `judge`.

@@ -42,3 +42,13 @@ operations-words s from keys low (suc m) few fit =
     pieces-first m (λ i. wordAt s (from + 8 * i))
     ∙ ap₂ _++_ (ap (wordAt s) start ∙ operation-word s from keys low few first)
     (ap (pieces m) (fun-ext (λ i. ap (wordAt s) (next i))) ∙ operations-words s (from + 8) keys (suc (rankAt s from)) m few (T-true _ others))
+
+-- they are at most two for each key: each has a higher rank than the one before
+pub operations-few : (s : List ℕ) (from keys low m : ℕ) → low ≤ 2 * keys → operationsFit s from keys low m ≡ true → low + m ≤ 2 * keys
+unfolding operationsFit
+operations-few s from keys low zero l fit = omega arith
+operations-few s from keys low (suc m) l fit =
+    let (first, others) = and-yes (operationFits s from keys low) (operationsFit s (from + 8) keys (suc (rankAt s from)) m) (true-T _ fit) in
+    let (access, key, zeros, rises) = operationFits-is s from keys low .0 first in
+    let rest = operations-few s (from + 8) keys (suc (rankAt s from)) m (omega arith) (T-true _ others) in
+    omega arith

@@ -90,7 +90,7 @@ pub fn put_commit(
     base: usize,
     n: usize,
 ) -> usize
-    requires { ⌜ (n ≤ maxKeys) × (client < maxClients) × (count < 256) × (base + n ≤ length (now masks)) ⌝ }
+    requires { ⌜ (n ≤ maxKeys) × (client < maxClients) × (base + n ≤ length (now masks)) ⌝ }
     requires { ⌜ (operations + 8 * count ≤ length (now file)) × (operationsFit (now file) operations n 0 count ≡ true) × (at + commitLength n count ≤ length (now buffer)) ⌝ }
     ensures { λ r. ⌜ r ≡ at + commitLength n count ⌝ }
     ensures { λ _. ⌜ ((u : View) → RowAt n (now (masks .entry)) base u

@@ -1,13 +1,20 @@
 -- `writing::put_commit` meets its contract: the first six bytes, the session number, the operations and the masks, put one behind the other,
 -- are a record of kind 3. Assumes nothing.
+use Prim.Native.Nat.{_*_, _≤_}
 use mathlib.Core.Path.{refl}
+use native.Mathlib.Omega.{arith}
 use borrow.Author.Needs.{needs}
 use denote.Ref.{now}
 use Rattle.trace.specs.Format.{operationsAt}
 use Rattle.trace.proofs.Decoded.{length-operationsAt}
+use Rattle.writing.proofs.Operations.{operations-few}
 use Rattle.writing.proofs.Records.{put-commit}
 use Rattle.writing.proofs.put_commit.Statement.{statement}
 use Rattle.writing.proofs.put_commit.Tie as tie
+
+-- the operations are few
+few : (c : tie.Start) → c .args .count ≤ 2 * c .args .n
+few c = omega (arith, operations-few (now (c .args .file)) (c .args .operations) (c .args .n) 0 (c .args .count) (omega arith) (c .pre .1 .1))
 
 mul-view : tie.Need-mul-view
 mul-view c = search needs
@@ -22,7 +29,7 @@ add-size : tie.Need-add-size
 add-size c = search needs
 
 put-start-requires : tie.Need-put-start-requires
-put-start-requires c κs = search needs
+put-start-requires c κs = omega (arith, few (c .before .before .before .before))
 
 add-put-u32 : tie.Need-add-put-u32
 add-put-u32 c = search needs
