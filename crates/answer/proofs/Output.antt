@@ -51,16 +51,19 @@ module _ {A : Type 0} (code : ℕ) {made : Result (Output A)} (buffer : List ℕ
 
 -- ---- the way back, from what was answered
 
--- where something was answered, it was made, and its bytes stand at the start of the buffer
-pub answered-written : {A : Type 0} (code : ℕ) (made : Result (Output A)) (buffer : List ℕ) (a : A) → answerIn code (length buffer) made ≡ taken a
-    → (o : Output A) × (made ≡ taken o) × (o .told ≡ a) × (take (length (o .bytes)) (bufferAfter made buffer) ≡ o .bytes)
-unfolding answerIn bufferAfter onTaken
-answered-written code (refused r) buffer a e = refused-taken e
-answered-written code (taken o) buffer a e =
-    let (long, same) = need-taken (leb (length (o .bytes)) (length buffer)) _ _ refused-taken e in (
-      o,
-      refl,
-      taken-injective same,
-      ap (take (length (o .bytes))) (choose-yes (leb (length (o .bytes)) (length buffer)) (putAt buffer 0 (o .bytes)) buffer long)
-      ∙ take-at (o .bytes) (drop (0 + length (o .bytes)) buffer) (length (o .bytes)) refl,
-    )
+-- where something was answered, it was made, and there was room for its bytes
+pub answered-made : {A : Type 0} (code : ℕ) (made : Result (Output A)) (room : ℕ) (a : A) → answerIn code room made ≡ taken a
+    → (o : Output A) × (made ≡ taken o) × (o .told ≡ a) × (length (o .bytes) ≤ room)
+unfolding answerIn onTaken
+answered-made code (refused r) room a e = refused-taken e
+answered-made code (taken o) room a e =
+    let (long, same) = need-taken (leb (length (o .bytes)) room) _ _ refused-taken e in
+    (o, refl, taken-injective same, leb→le (length (o .bytes)) room long)
+
+-- then its bytes stand at the start of the buffer
+pub stands-written : {A : Type 0} (made : Result (Output A)) (buffer : List ℕ) (o : Output A) → made ≡ taken o → length (o .bytes) ≤ length buffer
+    → take (length (o .bytes)) (bufferAfter made buffer) ≡ o .bytes
+unfolding bufferAfter
+stands-written made buffer o e l =
+    rw e (ap (take (length (o .bytes))) (choose-yes (leb (length (o .bytes)) (length buffer)) (putAt buffer 0 (o .bytes)) buffer (le→leb (length (o .bytes)) (length buffer) l))
+    ∙ take-at (o .bytes) (drop (0 + length (o .bytes)) buffer) (length (o .bytes)) refl)
