@@ -39,14 +39,6 @@ pub fn judge(file: &[u8], buffer: &mut [u8]) -> Answer
             header,
             commits: count,
             verdicts,
-        } => ending::finish(
-            buffer,
-            &versions,
-            &keys,
-            &commits,
-            header,
-            count,
-            verdicts,
-        ),
+        } => ending::finish(buffer, &versions, &keys, &commits, header, count, verdicts),
     }
 }

@@ -19,11 +19,11 @@ use Rattle.trace.specs.Meaning.{WholeFile}
 use Rattle.trace.specs.declared.form.Header.{Header}
 use Rattle.trace.proofs.Sizes.{length-fileHead, length-fileOf}
 use Rattle.levels.specs.Level.{Level, SER, Failure}
-use Rattle.answer.specs.Output.{Output}
+use Rattle.answer.specs.Output.{Output, answerIn}
 use Rattle.answer.specs.Answer.{finalStore, accept, verdict}
 use Rattle.answer.specs.Replay.{replayTrace, replay}
 use Rattle.answer.specs.Demand3.{Accepts}
-use Rattle.answer.specs.Written.{written}
+use Rattle.answer.specs.Written.{notSerial, written, replayAnswer}
 use Rattle.answer.proofs.Output.{Ends, ends-refused, ends-short, ends-written}
 use Rattle.answer.proofs.Written.{serial-written, not-serial}
 use Rattle.answer.proofs.ReplayFile.{replay-records}
@@ -76,6 +76,11 @@ module _ (bytes buffer : List ℕ) where
     not-serial-replay x told =
         let (f, is, same) = told-refused (verdict SER t) x told in
         rw same (ends-refused 17 buffer _ (rw e (not-serial t f is)))
+
+    -- "code 17, checked after 16": however short the buffer is
+    pub sixteen-first : (f : Failure) → verdict SER t ≡ some f → (room : ℕ) → replayAnswer bytes room ≡ refused (notSerial f)
+    unfolding replayAnswer written answerIn onTaken
+    sixteen-first f is room = rw (e, not-serial t f is) refl
 
     module _ (told : none ≡ mapSome tell (verdict SER t)) where
       abbrev output : Output ℕ

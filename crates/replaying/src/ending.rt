@@ -22,8 +22,7 @@ pub fn finish(file: &[u8], buffer: &mut [u8], h: Header, count: usize, verdicts:
         clause: _,
         key,
         version,
-    } = ser
-    {
+    } = ser {
         return Replay::Refused(Refusal::of_version(16, record, key, version));
     }
     let whole = records::size(file, h);

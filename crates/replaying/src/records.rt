@@ -85,7 +85,16 @@ fn write_commit(
     let ranks = trace::contents::sort_operations(file, operations, count, values);
     view::grow(full, ranks, n);
     writing::put_commit(
-        buffer, next, client, session, file, operations, count, full, 0, n,
+        buffer,
+        next,
+        client,
+        session,
+        file,
+        operations,
+        count,
+        full,
+        0,
+        n,
     )
 }
 
@@ -117,7 +126,16 @@ fn write_one(
             operations,
             masks: _,
         } => write_commit(
-            file, buffer, at, client, count, session, operations, full, values, n,
+            file,
+            buffer,
+            at,
+            client,
+            count,
+            session,
+            operations,
+            full,
+            values,
+            n,
         ),
     }
 }
@@ -136,15 +154,7 @@ pub fn write(file: &[u8], buffer: &mut [u8], h: Header)
     while 0 < left {
         let known = trace::records::known_at(file, at, h.keys);
         let record = known.record;
-        to = write_one(
-            file,
-            record,
-            buffer,
-            to,
-            &mut full,
-            &mut values,
-            h.keys,
-        );
+        to = write_one(file, record, buffer, to, &mut full, &mut values, h.keys);
         at = known.next;
         left = left - 1;
     }
