@@ -5,7 +5,6 @@ mod records; // records.rt: the records of the replay, and how long they are
 mod view; // view.rt: the masks of a full view, as commits go by
 
 use state::Refusal;
-use store::Store;
 use taking::Taking;
 ghost use mathlib.Core.Path.{_≡_};
 ghost use lib.ListN.{length};
@@ -25,11 +24,7 @@ pub fn write(file: &[u8], buffer: &mut [u8]) -> Replay
     ensures back { λ _. ⌜ ReadsBack (now (file .entry)) (length (now (buffer .entry))) (now (buffer .exit)) ⌝ }
     ensures longest { λ _. ⌜ ReplayFits (now (file .entry)) ⌝ }
 {
-    let s = Store::opening();
-    let mut versions = s.versions;
-    let mut keys = s.keys;
-    let mut commits = s.commits;
-    match taking::take_file(file, &mut versions, &mut keys, &mut commits) {
+    match taking::take(file) {
         Taking::Refused(refusal) => Replay::Refused(refusal),
         Taking::Taken {
             header,

@@ -8,7 +8,8 @@ use trace::form::Form;
 use trace::form::Header;
 use verdicts::told::Verdicts;
 use verdicts::told::verdicts_from;
-ghost use Prim.Native.Nat.{_≤_};
+ghost use mathlib.Core.List.{List};
+ghost use Prim.Native.Nat.{ℕ, _≤_};
 ghost use lib.ListN.{length};
 ghost use Rattle.store.specs.Limits.{minBytes, maxBytes};
 ghost use Rattle.trace.specs.Meaning.{WholeFile};
@@ -79,4 +80,15 @@ pub fn take_file(file: &[u8], versions: &mut [u64], keys: &mut [u64], commits: &
         Form::Misshapen { code, record } => Taking::Refused(Refusal::of_record(code, record)),
         Form::Whole(h) => take_records(file, h, versions, keys, commits),
     }
+}
+
+// The same for a call that has no use for the last store: the arrays are made and dropped here.
+pub fn take(file: &[u8]) -> Taking
+    ensures { λ r. ⌜ ((versions : List ℕ) × (keys : List ℕ) × (commits : List ℕ) × TakingSays (now (file .entry)) versions keys commits r) ⌝ }
+{
+    let s = Store::opening();
+    let mut versions = s.versions;
+    let mut keys = s.keys;
+    let mut commits = s.commits;
+    take_file(file, &mut versions, &mut keys, &mut commits)
 }

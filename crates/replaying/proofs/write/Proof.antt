@@ -11,35 +11,15 @@ use borrow.Author.Needs.{needs}
 use Rattle.replaying.proofs.write.Statement.{statement}
 use Rattle.replaying.proofs.write.Tie as tie
 
--- ---- the ways back to the call of `take_file`, and from there to the start
-
-abbrev refused : tie.After-known-told → tie.After-take-file
-refused c = c .before .before .before .before .before .before
-
-abbrev lent : tie.After-finish-arg → tie.After-take-file
-lent c = c .before .before .before .before .before .before .before
-
-abbrev begun : tie.After-take-file → tie.Start
-begun c = c .before .before .before .before .before .before .before .before .before .before
+abbrev begun : tie.After-take → tie.Start
+begun c = c .before .before .before
 
 -- the bytes of the file are bytes
-bytes : (c : tie.After-take-file) → Bytes (now (begun c .args .file))
-bytes c i = c .before .before .before .before .before .before .before .before .before .shared-slice-known .given i .fits
+bytes : (c : tie.After-take) → Bytes (now (begun c .args .file))
+bytes c i = c .before .before .shared-slice-known .given i .fits
 
-opening-requires : tie.Need-opening-requires
-opening-requires c κs = search needs
-
-slice-aggregate-take-file : tie.Need-slice-aggregate-take-file
-slice-aggregate-take-file c = search needs
-
-slice-aggregate-take-file-2 : tie.Need-slice-aggregate-take-file-2
-slice-aggregate-take-file-2 c = search needs
-
-slice-aggregate-take-file-3 : tie.Need-slice-aggregate-take-file-3
-slice-aggregate-take-file-3 c = search needs
-
-take-file-requires : tie.Need-take-file-requires
-take-file-requires c κs = search needs
+take-requires : tie.Need-take-requires
+take-requires c κs = search needs
 
 enum-known-refusal : tie.Need-enum-known-refusal
 enum-known-refusal c = search needs
@@ -49,15 +29,16 @@ enum-known-header c = search needs
 
 finish-requires : tie.Need-finish-requires
 finish-requires c κs =
-    ends-with (says-taken _ _ _ _ (lent c .take-file .ensures) (c .before .before .header .given .1) .1)
+    let taken = c .before .before .before .before .take .ensures in
+    ends-with (says-taken _ _ _ _ (taken .3) (c .before .before .header .given .1) .1)
 
 returns : tie.Need-returns
 unfolding replayAnswer
 returns c =
-    let at = refused c in
+    let at = c .before .before .before in
     let file = now (begun at .args .file) in
     let buffer = now (begun at .args .buffer) in
-    let a = refused-replay file buffer _ (says-refused _ _ _ _ (at .take-file .ensures) (c .before .refusal .given .1)) in
+    let a = refused-replay file buffer _ (says-refused _ _ _ _ (at .take .ensures .3) (c .before .refusal .given .1)) in
     (a .said, (a .left, (subst (ReadsBack file (length buffer)) (sym (a .left)) (reads-back file (bytes at) buffer), replay-fits file (bytes at))))
 
 same-length : tie.Need-same-length
@@ -66,7 +47,7 @@ same-length c = search needs
 returns-2 : tie.Need-returns-2
 returns-2 c =
     let ended = c .before .before in
-    let at = lent (ended .before) in
+    let at = ended .before .before .before .before .before in
     let file = now (begun at .args .file) in
     let buffer = now (begun at .args .buffer) in
     let a = ended .finish .ensures in
@@ -76,11 +57,7 @@ pub write-spec : {M : Type 1} → statement M
 write-spec =
     tie.close
     (tie.spec
-    opening-requires
-    slice-aggregate-take-file
-    slice-aggregate-take-file-2
-    slice-aggregate-take-file-3
-    take-file-requires
+    take-requires
     enum-known-refusal
     enum-known-header
     finish-requires
