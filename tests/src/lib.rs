@@ -20,6 +20,8 @@ pub mod generate;
 pub mod image;
 pub mod levels;
 pub mod met;
+#[cfg(feature = "proved")]
+pub mod programs;
 pub mod random;
 pub mod relations;
 pub mod replay;
