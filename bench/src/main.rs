@@ -78,7 +78,8 @@ fn time_each<const N: usize>(
     traces: &[Trace],
 ) -> [Vec<Times>; N] {
     let mut buffers = timed.map(|timed| vec![0; timed.room]);
-    let mut times = timed.map(|_| contenders.iter().map(|_| Times(Vec::new())).collect());
+    let mut times: [Vec<Times>; N] =
+        timed.map(|_| contenders.iter().map(|_| Times(Vec::new())).collect());
     let turns = N * contenders.len();
     for round in 0..ROUNDS {
         for turn in 0..turns {
@@ -93,8 +94,7 @@ fn time_each<const N: usize>(
                 spent.push((end - start).as_secs_f64() * 1e6);
                 start = end;
             }
-            let times: &mut Vec<Times> = &mut times[call];
-            times[which].0.push(spent);
+            times[call][which].0.push(spent);
         }
     }
     times
@@ -158,11 +158,15 @@ fn print_full(contenders: &mut [Box<dyn Contender>], traces: &[Trace]) {
 fn print_replay(contenders: &mut [Box<dyn Contender>], mut traces: Vec<Trace>) {
     traces.retain(|trace| trace.style == Style::Serial);
     println!("\nthe replay: {}", describe(&traces));
-    println!("taking: the judge with no image buffer; writing: replay less taking");
     let rows = [&JUDGE, &TAKING, &REPLAY];
     for timed in rows {
         check(contenders, timed, &traces);
     }
+    println!(
+        "its file: mean {} bytes",
+        mean_replay(&mut contenders[0], &traces)
+    );
+    println!("taking: the judge with no image buffer; writing: replay less taking");
     let times = time_each(contenders, rows, &traces);
     let all: Vec<usize> = (0..traces.len()).collect();
     print!("{:<12} {:>10}", "", "");
@@ -192,6 +196,16 @@ fn print_replay(contenders: &mut [Box<dyn Contender>], mut traces: Vec<Trace>) {
             println!();
         }
     }
+}
+
+/// The mean length of the replays.
+fn mean_replay(contender: &mut Box<dyn Contender>, traces: &[Trace]) -> u64 {
+    let mut buffer = vec![0; REPLAY.room];
+    let length = |trace: &Trace| {
+        contender.call(REPLAY.call, &trace.bytes, &mut buffer);
+        contender.words(REPLAY.call)[1]
+    };
+    traces.iter().map(length).sum::<u64>() / traces.len() as u64
 }
 
 /// One line for each size: how the time grows.
