@@ -173,7 +173,7 @@ fn print_replay(contenders: &mut [Box<dyn Contender>], mut traces: Vec<Trace>) {
     for contender in contenders.iter() {
         print!(" {:>9}", contender.name());
     }
-    println!(" {:>9}", if contenders.len() > 1 { "ratio" } else { "" });
+    println!("{}", "     ratio".repeat(contenders.len() - 1));
     for way in Way::ALL {
         let [judge, taking, replay] = times
             .each_ref()
@@ -186,16 +186,21 @@ fn print_replay(contenders: &mut [Box<dyn Contender>], mut traces: Vec<Trace>) {
             (REPLAY.name, replay),
             ("writing", writing),
         ] {
-            print!("{name:<12} {:>10}", way.name());
-            for time in &times {
-                print!(" {time:>9.2}");
-            }
-            for time in &times[1..] {
-                print!(" {:>9.2}", time / times[0]);
-            }
-            println!();
+            print_row(name, way, &times);
         }
     }
+}
+
+/// The time of each contender, and the ratios to the first.
+fn print_row(name: &str, way: Way, times: &[f64]) {
+    print!("{name:<12} {:>10}", way.name());
+    for time in times {
+        print!(" {time:>9.2}");
+    }
+    for time in &times[1..] {
+        print!(" {:>9.2}", time / times[0]);
+    }
+    println!();
 }
 
 /// The mean length of the replays.
