@@ -1,9 +1,8 @@
 //! Runs one judge on the timed traces again and again, for a profiler:
-//! `profile ordinary|proved [all|serial|snapshot|wild] [ROUNDS]`.
+//! `profile ordinary|proved [all|serial|snapshot|wild] [ROUNDS] [judge|replay]`.
 
-use bench::contender::contenders;
+use bench::contender::{contenders, JUDGE, REPLAY};
 use bench::traces::traces;
-use model::image;
 use std::env::args;
 use std::hint::black_box;
 
@@ -13,6 +12,9 @@ fn main() {
     let rounds: usize = args()
         .nth(3)
         .map_or(100, |text| text.parse().expect("a number of rounds"));
+    let call = args().nth(4).unwrap_or("judge".into());
+    let timed = [JUDGE, REPLAY].into_iter().find(|timed| timed.name == call);
+    let timed = timed.expect("the call: judge or replay");
     let mut traces = traces(1, 1_000, 63, 16);
     traces.retain(|trace| style == "all" || style == trace.style.name());
     let mut contenders = contenders();
@@ -20,10 +22,10 @@ fn main() {
         .iter_mut()
         .find(|contender| contender.name() == judge);
     let contender = contender.expect("a judge that is linked in");
-    let mut image = vec![0; image::LONGEST];
+    let mut buffer = vec![0; timed.room];
     for _ in 0..rounds {
         for trace in &traces {
-            contender.judge(black_box(&trace.bytes), &mut image);
+            contender.call(timed.call, black_box(&trace.bytes), &mut buffer);
         }
     }
 }

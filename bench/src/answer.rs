@@ -7,7 +7,14 @@ pub enum Answer {
     Judged(Report),
 }
 
-/// A code from 1 to 15; record, key and version are 0 where not named.
+/// The length of the replay of a trace file, which was written; or a refusal.
+#[derive(Clone, Copy, PartialEq, Eq, Debug)]
+pub enum Replay {
+    Refused(Refusal),
+    Written(u32),
+}
+
+/// A code from 1 to 17; record, key and version are 0 where not named.
 #[derive(Clone, Copy, PartialEq, Eq, Debug)]
 pub struct Refusal {
     pub code: u8,
@@ -54,18 +61,33 @@ pub enum Verdict {
 impl From<Answer> for model::Answer {
     fn from(answer: Answer) -> model::Answer {
         match answer {
-            Answer::Refused(refusal) => model::Answer::Refused(model::Refusal {
-                code: refusal.code,
-                record: refusal.record as usize,
-                key: refusal.key.into(),
-                version: refusal.version.into(),
-            }),
+            Answer::Refused(refusal) => model::Answer::Refused(refusal.into()),
             Answer::Judged(report) => model::Answer::Judged(model::Report {
                 verdicts: report.verdicts.map(model::Verdict::from),
                 records: report.records as usize,
                 commits: report.commits as usize,
                 image_len: report.image_len as usize,
             }),
+        }
+    }
+}
+
+impl From<Replay> for model::Replay {
+    fn from(answer: Replay) -> model::Replay {
+        match answer {
+            Replay::Refused(refusal) => model::Replay::Refused(refusal.into()),
+            Replay::Written(length) => model::Replay::Written(length as usize),
+        }
+    }
+}
+
+impl From<Refusal> for model::Refusal {
+    fn from(refusal: Refusal) -> model::Refusal {
+        model::Refusal {
+            code: refusal.code,
+            record: refusal.record as usize,
+            key: refusal.key.into(),
+            version: refusal.version.into(),
         }
     }
 }

@@ -1,5 +1,5 @@
-//! An ordinary fast judge of trace files, the traces it is timed with, and the
-//! proved judge to be timed beside it.
+//! An ordinary fast judge of trace files, which writes replays too, the traces
+//! it is timed with, and the proved calls to be timed beside it.
 
 pub mod answer;
 pub mod contender;
@@ -8,5 +8,5 @@ pub mod ordinary;
 pub mod proved;
 pub mod traces;
 
-pub use answer::{Answer, Refusal, Report, Verdict};
+pub use answer::{Answer, Refusal, Replay, Report, Verdict};
 pub use ordinary::Judge;

@@ -1,16 +1,16 @@
 //! The benchmark: times the ordinary judge, and the proved one beside it if it
-//! is linked in (feature `proved`), round by round on the same traces. With
-//! `--short` it leaves out how the times grow.
+//! is linked in (feature `proved`), round by round on the same traces; then the
+//! replay beside the judge. With `--short` it leaves out how the times grow.
 
 use std::hint::black_box;
 use std::time::Instant;
 
-use bench::contender::{check, contenders, Contender};
+use bench::contender::{check, contenders, Contender, Timed, JUDGE, REPLAY, TAKING};
 use bench::traces::{describe, traces, Style, Trace};
-use model::image;
 
 const SEED: u64 = 1;
 const ROUNDS: usize = 21;
+
 /// The times of one contender in microseconds: a row for each round, in it a
 /// time for each trace.
 struct Times(Vec<Vec<f64>>);
@@ -66,22 +66,35 @@ impl Times {
 
 /// Times the contenders on the traces, one after the other in each round; who
 /// is first changes from round to round.
-fn time(contenders: &mut [Box<dyn Contender>], traces: &[Trace]) -> Vec<Times> {
-    let mut image = vec![0; image::LONGEST];
-    let mut times: Vec<Times> = contenders.iter().map(|_| Times(Vec::new())).collect();
+fn time(contenders: &mut [Box<dyn Contender>], timed: &Timed, traces: &[Trace]) -> Vec<Times> {
+    let [times] = time_each(contenders, [timed], traces);
+    times
+}
+
+/// The same for several calls, all of them in each round.
+fn time_each<const N: usize>(
+    contenders: &mut [Box<dyn Contender>],
+    timed: [&Timed; N],
+    traces: &[Trace],
+) -> [Vec<Times>; N] {
+    let mut buffers = timed.map(|timed| vec![0; timed.room]);
+    let mut times: [Vec<Times>; N] =
+        timed.map(|_| contenders.iter().map(|_| Times(Vec::new())).collect());
+    let turns = N * contenders.len();
     for round in 0..ROUNDS {
-        for turn in 0..contenders.len() {
-            let which = (round + turn) % contenders.len();
-            let contender = &mut contenders[which];
+        for turn in 0..turns {
+            let turn = (round + turn) % turns;
+            let (which, call) = (turn % contenders.len(), turn / contenders.len());
+            let (contender, buffer) = (&mut contenders[which], &mut buffers[call]);
             let mut spent = Vec::with_capacity(traces.len());
             let mut start = Instant::now();
             for trace in traces {
-                contender.judge(black_box(&trace.bytes), &mut image);
+                contender.call(timed[call].call, black_box(&trace.bytes), buffer);
                 let end = Instant::now();
                 spent.push((end - start).as_secs_f64() * 1e6);
                 start = end;
             }
-            times[which].0.push(spent);
+            times[call][which].0.push(spent);
         }
     }
     times
@@ -112,7 +125,7 @@ fn groups(traces: &[Trace]) -> Vec<Vec<usize>> {
 
 /// The whole table for one set of traces.
 fn print_full(contenders: &mut [Box<dyn Contender>], traces: &[Trace]) {
-    let times = time(contenders, traces);
+    let times = time(contenders, &JUDGE, traces);
     let groups = groups(traces);
     print!("{:<12} {:>10} {:>9}", "judge", "", "all");
     for style in Style::ALL {
@@ -139,6 +152,67 @@ fn print_full(contenders: &mut [Box<dyn Contender>], traces: &[Trace]) {
     }
 }
 
+/// The replay beside the judge, on those of the traces that have one. Taking is
+/// the judge without an image buffer, which takes the trace and writes nothing,
+/// so that what the replay needs beyond it is the writing of the file.
+fn print_replay(contenders: &mut [Box<dyn Contender>], mut traces: Vec<Trace>) {
+    traces.retain(|trace| trace.style == Style::Serial);
+    println!("\nthe replay: {}", describe(&traces));
+    let rows = [&JUDGE, &TAKING, &REPLAY];
+    for timed in rows {
+        check(contenders, timed, &traces);
+    }
+    println!(
+        "its file: mean {} bytes",
+        mean_replay(&mut contenders[0], &traces)
+    );
+    println!("taking: the judge with no image buffer; writing: replay less taking");
+    let times = time_each(contenders, rows, &traces);
+    let all: Vec<usize> = (0..traces.len()).collect();
+    print!("{:<12} {:>10}", "", "");
+    for contender in contenders.iter() {
+        print!(" {:>9}", contender.name());
+    }
+    println!("{}", "     ratio".repeat(contenders.len() - 1));
+    for way in Way::ALL {
+        let [judge, taking, replay] = times
+            .each_ref()
+            .map(|times| -> Vec<f64> { times.iter().map(|times| times.of(way, &all)).collect() });
+        let writing = replay.iter().zip(&taking).map(|(all, taking)| all - taking);
+        let writing: Vec<f64> = writing.collect();
+        for (name, times) in [
+            (JUDGE.name, judge),
+            (TAKING.name, taking),
+            (REPLAY.name, replay),
+            ("writing", writing),
+        ] {
+            print_row(name, way, &times);
+        }
+    }
+}
+
+/// The time of each contender, and the ratios to the first.
+fn print_row(name: &str, way: Way, times: &[f64]) {
+    print!("{name:<12} {:>10}", way.name());
+    for time in times {
+        print!(" {time:>9.2}");
+    }
+    for time in &times[1..] {
+        print!(" {:>9.2}", time / times[0]);
+    }
+    println!();
+}
+
+/// The mean length of the replays.
+fn mean_replay(contender: &mut Box<dyn Contender>, traces: &[Trace]) -> u64 {
+    let mut buffer = vec![0; REPLAY.room];
+    let length = |trace: &Trace| {
+        contender.call(REPLAY.call, &trace.bytes, &mut buffer);
+        contender.words(REPLAY.call)[1]
+    };
+    traces.iter().map(length).sum::<u64>() / traces.len() as u64
+}
+
 /// One line for each size: how the time grows.
 fn print_growth(contenders: &mut [Box<dyn Contender>], sizes: &[(usize, usize)], number: usize) {
     print!("{:>7} {:>5} {:>8}", "commits", "keys", "bytes");
@@ -154,8 +228,8 @@ fn print_growth(contenders: &mut [Box<dyn Contender>], sizes: &[(usize, usize)],
     println!();
     for &(commits, keys) in sizes {
         let traces = traces(SEED, number, commits, keys);
-        check(contenders, &traces);
-        let times = time(contenders, &traces);
+        check(contenders, &JUDGE, &traces);
+        let times = time(contenders, &JUDGE, &traces);
         let all: Vec<usize> = (0..traces.len()).collect();
         let bytes: usize = traces.iter().map(|trace| trace.bytes.len()).sum();
         print!("{commits:>7} {keys:>5} {:>8}  ", bytes / traces.len());
@@ -187,8 +261,9 @@ fn main() {
 
     let long = traces(SEED, 1_000, 63, 16);
     println!("\n63 commits, 16 keys: {}", describe(&long));
-    check(&mut contenders, &long);
+    check(&mut contenders, &JUDGE, &long);
     print_full(&mut contenders, &long);
+    print_replay(&mut contenders, long);
     if std::env::args().any(|argument| argument == "--short") {
         return;
     }

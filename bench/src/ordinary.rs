@@ -10,8 +10,12 @@
 //! kept as a set of commits too, and the clauses are tested on such sets. Keys
 //! and versions are looked for only when a level fails for the first time.
 
+mod replay;
+
 use crate::answer::{Answer, Refusal, Report, Verdict};
-use crate::form::{self, Operation, Operations, Reader, Record, Row, CLIENTS, COMMITS, KEYS};
+use crate::form::{
+    self, Header, Operation, Operations, Reader, Record, Row, CLIENTS, COMMITS, KEYS,
+};
 
 /// Commits are numbered from 1, so arrays by commit have one place more.
 const SLOTS: usize = COMMITS + 1;
@@ -94,6 +98,23 @@ impl Judge {
     }
 
     fn try_judge(&mut self, trace: &[u8], image: &mut [u8]) -> Result<Report, Refusal> {
+        let header = self.take(trace)?;
+        let image_len = self.store.image_len(header.keys);
+        let Some(image) = image.get_mut(..image_len) else {
+            return Err(Refusal::at(15, 0));
+        };
+        self.store.write_image(header.keys, image);
+        Ok(Report {
+            verdicts: self.levels.verdicts,
+            records: header.records,
+            commits: self.store.commits as u32,
+            image_len: image_len as u32,
+        })
+    }
+
+    /// Takes a trace file, or refuses it with one of codes 1 to 14: the store
+    /// and the verdicts are those at its end then.
+    fn take(&mut self, trace: &[u8]) -> Result<Header, Refusal> {
         let header = form::header(trace)?;
         self.open(header.keys);
 
@@ -137,21 +158,10 @@ impl Judge {
         if !reader.at_end() {
             return Err(Refusal::at(5, header.records));
         }
-        if let Some(refusal) = fault {
-            return Err(refusal);
+        match fault {
+            Some(refusal) => Err(refusal),
+            None => Ok(header),
         }
-
-        let image_len = self.store.image_len(header.keys);
-        let Some(image) = image.get_mut(..image_len) else {
-            return Err(Refusal::at(15, 0));
-        };
-        self.store.write_image(header.keys, image);
-        Ok(Report {
-            verdicts: self.levels.verdicts,
-            records: header.records,
-            commits: commits as u32,
-            image_len: image_len as u32,
-        })
     }
 
     /// The opening store and views.

@@ -1,50 +1,64 @@
-//! The ordinary judge against a plain model: the same answer to every file,
-//! the same bytes in the lent buffer.
+//! The ordinary judge against a plain model: the same answer to every file, the
+//! same bytes in the lent buffer, of each call.
 
 use bench::traces::{describe, traces};
 use bench::Judge;
 use model::buffer::{pattern, untouched, LONG};
 use model::met::Met;
-use model::{outcome, Answer, Outcome, Refusal, Verdict};
+use model::{outcome, Answer, Call, Outcome, Replay, Verdict};
 use std::collections::BTreeMap;
 
-/// Both judges on one file, of which the model says this, with a buffer of this
+/// A call on one file, of which the model says this, with a buffer of this
 /// length: answers and all bytes of the buffers are the same, and what must be
-/// untouched is untouched.
-fn compare(judge: &mut Judge, bytes: &[u8], outcome: &Outcome, room: usize, name: &str) -> Answer {
-    let mut image = pattern(room);
-    let mut model_image = pattern(room);
-    let answer = Answer::from(judge.judge(bytes, &mut image));
-    assert_eq!(answer, model::answer(outcome, &mut model_image), "{name}");
-    assert!(image == model_image, "{name}: image");
-    let written = match answer {
-        Answer::Refused(_) => 0,
-        Answer::Judged(report) => report.image_len,
+/// untouched is untouched. Answers the code.
+fn compare(
+    judge: &mut Judge,
+    call: Call,
+    bytes: &[u8],
+    outcome: &Outcome,
+    room: usize,
+    name: &str,
+) -> u8 {
+    let name = format!("{}, {name}, buffer of {room}", call.name());
+    let (mut buffer, mut due) = (pattern(room), pattern(room));
+    let code = match call {
+        Call::Judge => {
+            let answer = Answer::from(judge.judge(bytes, &mut buffer));
+            assert_eq!(answer, model::answer(outcome, &mut due), "{name}");
+            answer.code()
+        }
+        Call::Replay => {
+            let answer = Replay::from(judge.replay(bytes, &mut buffer));
+            assert_eq!(answer, model::replayed(outcome, &mut due), "{name}");
+            answer.code()
+        }
     };
-    assert!(untouched(&image, written), "{name}: bytes after the image");
-    answer
+    assert!(buffer == due, "{name}: other bytes");
+    let written = match code {
+        0 => call.written(outcome).map_or(0, <[u8]>::len),
+        _ => 0,
+    };
+    assert!(untouched(&buffer, written), "{name}: bytes behind");
+    code
 }
 
 /// One file with a long buffer, and with one that is just long enough and one
-/// that is a byte too short if it is taken.
-fn compare_all(judge: &mut Judge, bytes: &[u8], name: &str) -> Answer {
+/// that is a byte too short if something is written. Answers the judge's code.
+fn compare_all(judge: &mut Judge, bytes: &[u8], name: &str) -> u8 {
     let outcome = outcome(bytes);
-    let answer = compare(judge, bytes, &outcome, LONG, name);
-    if let Answer::Judged(report) = answer {
-        let needed = report.image_len;
-        assert_eq!(
-            compare(judge, bytes, &outcome, needed, name),
-            answer,
-            "{name}: exact buffer"
-        );
-        let short = compare(judge, bytes, &outcome, needed - 1, name);
-        assert_eq!(
-            short,
-            Answer::Refused(Refusal::at(15, 0)),
-            "{name}: short buffer"
-        );
-    }
-    answer
+    let codes = Call::ALL.map(|call| {
+        let code = compare(judge, call, bytes, &outcome, call.long(), name);
+        if let Some(written) = call.written(&outcome) {
+            let needed = written.len();
+            let exact = compare(judge, call, bytes, &outcome, needed, name);
+            assert_eq!([code, exact], [0; 2], "{name}: exact buffer");
+            let short = compare(judge, call, bytes, &outcome, needed - 1, name);
+            let due = call.own_codes().last();
+            assert_eq!(Some(&short), due, "{name}: short buffer");
+        }
+        code
+    });
+    codes[0]
 }
 
 #[test]
@@ -52,19 +66,18 @@ fn generated_files() {
     let mut judge = Judge::new();
     let met = Met::of(0..20_000, |seed, case, outcome| {
         let name = format!("seed {seed} ({})", case.kind);
-        // A short buffer now and then, so that code 15 is met as well.
+        // A short buffer now and then, so that its codes are met as well.
         let shorter = if seed % 7 == 0 {
             1 + seed as usize % 200
         } else {
             1
         };
-        vec![compare(
-            &mut judge,
-            &case.bytes,
-            outcome,
-            LONG / shorter,
-            &name,
-        )]
+        let compared = |call: Call| {
+            let room = call.long() / shorter;
+            let code = compare(&mut judge, call, &case.bytes, outcome, room, &name);
+            (call, code)
+        };
+        Call::ALL.map(compared).to_vec()
     });
     met.print();
     met.lacks_nothing();
@@ -98,8 +111,8 @@ fn timed_traces() {
     for (commits, keys) in sizes {
         for (number, trace) in traces(7, 20, commits, keys).iter().enumerate() {
             let name = format!("{commits} commits, {keys} keys, trace {number}");
-            let answer = compare_all(&mut judge, &trace.bytes, &name);
-            assert_eq!(answer.code(), 0, "{name}: not taken");
+            let code = compare_all(&mut judge, &trace.bytes, &name);
+            assert_eq!(code, 0, "{name}: not taken");
         }
     }
 }
@@ -127,14 +140,20 @@ fn what_is_timed() {
     assert_eq!(refusing, due, "traces that each level refuses");
 }
 
-/// The proved judge, as it is timed, on the traces that it is timed with: the
-/// words and the image are those of the ordinary judge.
+/// The proved calls, as they are timed, on the traces that they are timed with:
+/// the words and the bytes written are those of the ordinary judge.
 #[cfg(feature = "proved")]
 #[test]
-fn proved_judge_on_timed_traces() {
-    let mut contenders = bench::contender::contenders();
-    assert_eq!(contenders.len(), 2, "it is linked in");
-    bench::contender::check(&mut contenders, &traces(1, 1_000, 63, 16));
+fn proved_calls_on_timed_traces() {
+    use bench::contender::{check, contenders, JUDGE, REPLAY, TAKING};
+    use bench::traces::Style;
+    let mut contenders = contenders();
+    assert_eq!(contenders.len(), 2, "they are linked in");
+    let mut timed = traces(1, 1_000, 63, 16);
+    check(&mut contenders, &JUDGE, &timed);
+    timed.retain(|trace| trace.style == Style::Serial);
+    check(&mut contenders, &TAKING, &timed);
+    check(&mut contenders, &REPLAY, &timed);
 }
 
 /// The timed traces with one bit changed, short and long ones: refusals deep
@@ -151,8 +170,10 @@ fn spoiled_traces() {
                 let kept = bytes[place];
                 bytes[place] ^= 1 << (change % 8);
                 let name = format!("{commits} commits, {keys} keys, trace {number}, byte {place}");
-                let answer = compare(&mut judge, &bytes, &outcome(&bytes), LONG, &name);
-                *codes.entry(answer.code()).or_default() += 1;
+                let outcome = outcome(&bytes);
+                let [code, _] = Call::ALL
+                    .map(|call| compare(&mut judge, call, &bytes, &outcome, call.long(), &name));
+                *codes.entry(code).or_default() += 1;
                 bytes[place] = kept;
             }
         }

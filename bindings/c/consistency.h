@@ -3,8 +3,8 @@
  *     rt staticlib consistency
  *     cc -I bindings/c YOUR.c target/staticlib/libconsistency.a
  *
- * crates/consistency/src/lib.rt says what is proved of each call. docs/FORMAT.md has the trace file, the image and the report, and the
- * tables below in their long form: what to do about each code, and an example for each clause.
+ * crates/consistency/src/lib.rt says what is proved of each call. docs/FORMAT.md has the trace file, the image, the replay and the
+ * report, and the tables below in their long form: what to do about each code, and an example for each clause.
  *
  * All places that a call is lent stay the caller's, who has them to read (`file`) and to write (the others) for as many elements
  * as the lengths say; they do not overlap, and none is null. A length may be 0, and any bytes may stand in a file. A file is never
@@ -27,6 +27,8 @@ extern "C" {
 #define CONSISTENCY_LONGEST_FILE 65536
 /* No image is longer; a buffer of this length is never too short. */
 #define CONSISTENCY_LONGEST_IMAGE 16960
+/* No replay is longer; a buffer of this length is never too short. */
+#define CONSISTENCY_LONGEST_REPLAY 33276
 /* No report is longer. */
 #define CONSISTENCY_LONGEST_REPORT 1272
 
@@ -42,7 +44,7 @@ extern "C" {
  *     code    record    key       version   0         0 where the code does not name it
  *
  *     code | refused since                                                           | names
- *     -----|-------------------------------------------------------------------------|--------------------------------------
+ *     -----|-------------------------------------------------------------------------|-----------------------------------------
  *        1 | the file is cut short, too long, or its first field is not its length   | record 0
  *        2 | the header's length, kind, keys or clients are wrong                    | record 0
  *        3 | a record is cut off, or its length is not the one of its kind           | record
@@ -58,6 +60,15 @@ extern "C" {
  *       13 | a read's value is not that of the newest version in the view            | record, least key, the version read
  *       14 | a view changed at a key without an operation                            | record, least key
  *       15 | the image buffer is shorter than the image                              |
+ *       16 | SER does not accept the trace, so that it has no replay                 | record, key and version of SER's verdict
+ *       17 | the file buffer is shorter than the file that is to be written          |
+ *
+ * A call gives these and no others:
+ *
+ *     call        | codes
+ *     ------------|---------------------------
+ *     judge_file  | 1 to 14, then 15
+ *     replay_file | 1 to 14, then 16, then 17
  *
  * Of several that are due the first is answered, in the order that docs/FORMAT.md gives. */
 #define CONSISTENCY_NO_ROOM 255
@@ -121,6 +132,23 @@ enum {
     CONSISTENCY_SI = 36,
     CONSISTENCY_SER = 40
 };
+
+/* Writes the replay of the trace in the first `file_length` bytes at `file`, if SER accepts the trace: a trace file with the same commits,
+ * each after a shift of its client to all that there is, and left with a view of all that there is then. `judge_file` gives the replay the
+ * image of the trace and ten accepted verdicts.
+ *
+ * Code 0: the replay stands at the start of `buffer`, and two words are written:
+ *
+ *     0       1
+ *     0       length of the replay
+ *
+ * A refusal writes no byte of `buffer`. Where `words` has less than CONSISTENCY_REPLAY_WORDS, the code is 255. */
+uint64_t replay_file(const uint8_t *file, size_t file_length,
+                     uint8_t *buffer, size_t buffer_length,
+                     uint64_t *words, size_t words_length);
+
+#define CONSISTENCY_REPLAY_WORDS 5
+#define CONSISTENCY_REPLAY_STACK 32768
 
 /* Judges the trace file as `judge_file` does and writes the report, text with a line feed at the end of each line and no 0 byte, at the
  * start of `text`. Answers the length of the report. Where `text` has less than CONSISTENCY_LONGEST_REPORT bytes nothing is judged or

@@ -1,14 +1,30 @@
 //! Lent buffers, with something in them beforehand that shows what is written.
 
-use crate::image;
+use crate::{image, replay};
 
 /// More than any image needs.
 pub const LONG: usize = image::LONGEST + 40;
 
-/// What a buffer has in it: at places side by side, other bytes.
+/// More than any replay needs.
+pub const LONG_FILE: usize = replay::LONGEST + 40;
+
+/// What a buffer has in it: at places side by side, other bytes, which come
+/// again after 256 places.
 pub fn pattern(length: usize) -> Vec<u8> {
-    (0..length).map(|place| (place * 37 + 11) as u8).collect()
+    let mut bytes = PERIOD.repeat(length / PERIOD.len() + 1);
+    bytes.truncate(length);
+    bytes
 }
+
+const PERIOD: [u8; 256] = {
+    let mut bytes = [0; 256];
+    let mut place = 0;
+    while place < bytes.len() {
+        bytes[place] = (place * 37 + 11) as u8;
+        place += 1;
+    }
+    bytes
+};
 
 /// Does a buffer have the pattern still, from some place on?
 pub fn untouched(buffer: &[u8], from: usize) -> bool {

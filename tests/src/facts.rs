@@ -7,8 +7,8 @@ use crate::relations::{
 };
 use crate::run::{run, Run};
 use crate::store::{CommitNumber, Store};
-use crate::trace::{encode, Record, Trace};
-use crate::{form, image, judge, Answer, Report, Verdict};
+use crate::trace::Trace;
+use crate::{form, outcome, Report, Taken, Verdict};
 use std::collections::BTreeSet;
 
 /// The number of the first commit that fails a level; one more than the number
@@ -116,70 +116,38 @@ fn targets(links: &Relation, from: CommitNumber) -> Vec<CommitNumber> {
         .collect()
 }
 
-/// The replay of a taken trace as a file; no bytes for one that is not taken.
-pub fn replay(trace: &[u8]) -> Vec<u8> {
-    match taken(trace) {
-        Some((trace, run)) => encode(&replay_of(&trace, &run)),
-        None => Vec::new(),
+/// If SER accepts there is a replay, which is taken, gives the same store and
+/// image, passes all ten levels, and is its own replay; if not there is none.
+pub fn replay_holds(taken: &Taken) -> Result<(), String> {
+    if taken.replay.is_ok() != accepts(&taken.report, "SER") {
+        return Err("a replay where SER refuses, or none where it accepts".to_string());
     }
-}
-
-/// The same commits in the same order, each after a shift of its client to a
-/// full view of the store it is made on, and left with a full view.
-pub fn replay_of(trace: &Trace, run: &Run) -> Trace {
-    let mut records = Vec::new();
-    for step in &run.steps {
-        records.push(Record::Shift {
-            client: step.author.client,
-            view: step.store.versions(),
-        });
-        records.push(Record::Commit {
-            client: step.author.client,
-            session: step.author.session,
-            operations: step.operations.clone(),
-            after: step.store_after.versions(),
-        });
-    }
-    Trace {
-        keys: trace.keys,
-        clients: trace.clients,
-        records,
-    }
-}
-
-/// If SER accepts: the replay is taken, gives the same store and image, and
-/// all ten levels accept it.
-pub fn replay_holds(report: &Report, trace: &Trace, run: &Run) -> Result<(), String> {
-    if !accepts(report, "SER") {
+    let Ok(file) = &taken.replay else {
         return Ok(());
-    }
-    let file = encode(&replay_of(trace, run));
-    let Some((_, again)) = taken(&file) else {
+    };
+    let Ok(again) = outcome(file) else {
         return Err("the replay is refused".to_string());
     };
-    if again.store != run.store {
+    if again.store != taken.store {
         return Err("the replay gives another store".to_string());
     }
-    let due = image::image(&run.store);
-    let mut image = vec![0xA5; due.len()];
-    let Answer::Judged(replayed) = judge(&file, &mut image) else {
-        return Err("the replay is refused".to_string());
-    };
-    if image != due {
+    if again.image != taken.image {
         return Err("the replay gives another image".to_string());
     }
-    if replayed.verdicts != [Verdict::Accepted; 10] {
+    if again.report.verdicts != [Verdict::Accepted; 10] {
         return Err("a level refuses the replay".to_string());
+    }
+    if again.replay != taken.replay {
+        return Err("the replay has another replay".to_string());
     }
     Ok(())
 }
 
-/// Demand 3, whole, of one taken trace and its report.
-pub fn demand_3_holds(file: &[u8], report: &Report) -> Result<(), String> {
-    let (trace, run) = taken(file).ok_or("not taken")?;
-    order_holds(report)?;
-    rings_hold(report, &run.store)?;
-    replay_holds(report, &trace, &run)
+/// Demand 3, whole, of one taken trace.
+pub fn demand_3_holds(taken: &Taken) -> Result<(), String> {
+    order_holds(&taken.report)?;
+    rings_hold(&taken.report, &taken.store)?;
+    replay_holds(taken)
 }
 
 /// The trace and its run, if none of codes 1 to 14 is due.

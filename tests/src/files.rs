@@ -55,13 +55,3 @@ pub fn at(path: &str) -> PathBuf {
 pub fn report_of(file: &[u8]) -> String {
     report(&judge_with_room(file))
 }
-
-/// The program `judge`, as it was built.
-pub fn program() -> PathBuf {
-    let path = at("target/bin/judge");
-    assert!(
-        path.exists(),
-        "there is no target/bin/judge: `rt check judge` builds it"
-    );
-    path
-}

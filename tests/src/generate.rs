@@ -9,7 +9,9 @@ pub mod taken;
 
 pub use mangled::{mangled, record_places};
 pub use planted::{competing, planted};
-pub use taken::{build, build_path, exactly_full, largest, Built, Numbering, Rule, Seeing, Style};
+pub use taken::{
+    build, build_path, exactly_full, largest, largest_serial, Built, Numbering, Rule, Seeing, Style,
+};
 
 use crate::random::Random;
 use crate::trace::{encode, Trace};

@@ -2,14 +2,16 @@
 //!
 //! It answers the call that section "The work to build and its rules" asks
 //! for: one trace file in a lent slice, one store image into a second lent
-//! slice, and either ten verdicts or one refusal (section "Bench codes").
-//! Everything is sets, maps and lists, as near to the wording of the paper as
-//! it goes. It is slow on purpose: it is there to be compared with.
+//! slice, and either ten verdicts or one refusal (section "Bench codes"); and
+//! the call of request E1, which writes the replay of a trace into a lent file
+//! buffer. Everything is sets, maps and lists, as near to the wording of the
+//! paper as it goes. It is slow on purpose: it is there to be compared with.
 
 #[cfg(feature = "proved")]
 pub mod beside;
 pub mod buffer;
 pub mod by_hand;
+pub mod call;
 pub mod example_traces;
 pub mod facts;
 pub mod files;
@@ -18,17 +20,22 @@ pub mod generate;
 pub mod image;
 pub mod levels;
 pub mod met;
+#[cfg(feature = "proved")]
+pub mod programs;
 pub mod random;
 pub mod relations;
+pub mod replay;
 pub mod run;
 pub mod store;
 pub mod text;
 pub mod trace;
 pub mod words;
 
-pub use facts::replay;
+pub use call::Call;
+pub use replay::Replay;
 pub use text::report;
-pub use words::words;
+
+use store::Store;
 
 /// What a trace file is answered with.
 #[allow(clippy::large_enum_variant)] // plain data, copied freely
@@ -48,7 +55,7 @@ impl Answer {
     }
 }
 
-/// One code from 1 to 15 with what it names; 0 where it names nothing.
+/// One code from 1 to 17 with what it names; 0 where it names nothing.
 #[derive(Clone, Copy, PartialEq, Eq, PartialOrd, Ord, Debug)]
 pub struct Refusal {
     pub code: u8,
@@ -102,9 +109,26 @@ pub fn judge_with_room(trace: &[u8]) -> Answer {
     judge(trace, &mut [0; image::LONGEST])
 }
 
-/// What a file comes to before any image buffer is looked at: one of the codes
-/// 1 to 14, or the report of a taken trace and the image of its store.
-pub type Outcome = Result<(Report, Vec<u8>), Refusal>;
+/// Writes the replay of a trace file. With a refusal no byte of `buffer`
+/// changes; otherwise the replay stands at its start and the bytes after it are
+/// as before.
+pub fn replay(trace: &[u8], buffer: &mut [u8]) -> Replay {
+    replayed(&outcome(trace), buffer)
+}
+
+/// What a file comes to before any buffer is looked at: one of the codes 1 to
+/// 14, or a taken trace.
+pub type Outcome = Result<Taken, Refusal>;
+
+/// A taken trace: its report, its final store and the image of that; and its
+/// replay as a file, or code 16.
+#[derive(Clone, Debug)]
+pub struct Taken {
+    pub report: Report,
+    pub store: Store,
+    pub image: Vec<u8>,
+    pub replay: Result<Vec<u8>, Refusal>,
+}
 
 /// The order of the codes: form (1 to 8), then meaning (9 to 14).
 pub fn outcome(file: &[u8]) -> Outcome {
@@ -117,17 +141,38 @@ pub fn outcome(file: &[u8]) -> Outcome {
         commits: run.steps.len(),
         image_len: image.len(),
     };
-    Ok((report, image))
+    let ser = &report.verdicts[levels::place_of("SER")];
+    Ok(Taken {
+        replay: replay::replay_file(&trace, &run, ser),
+        report,
+        store: run.store,
+        image,
+    })
 }
 
-/// What a lent buffer gets. "15 last": nothing but its length matters.
+/// What a lent image buffer gets. "15 last": nothing but its length matters.
 pub fn answer(outcome: &Outcome, buffer: &mut [u8]) -> Answer {
     match outcome {
         Err(refusal) => Answer::Refused(*refusal),
-        Ok((_, image)) if buffer.len() < image.len() => Answer::Refused(Refusal::at(15, 0)),
-        Ok((report, image)) => {
-            buffer[..image.len()].copy_from_slice(image);
-            Answer::Judged(*report)
-        }
+        Ok(taken) if !put(&taken.image, buffer) => Answer::Refused(Refusal::at(15, 0)),
+        Ok(taken) => Answer::Judged(taken.report),
     }
+}
+
+/// The same for a lent file buffer. "A refused trace keeps its own code, before
+/// 16".
+pub fn replayed(outcome: &Outcome, buffer: &mut [u8]) -> Replay {
+    match outcome {
+        Err(refusal) => Replay::Refused(*refusal),
+        Ok(taken) => replay::write(&taken.replay, buffer),
+    }
+}
+
+/// Puts bytes at the start of a buffer; nothing if it is shorter than they are.
+fn put(bytes: &[u8], buffer: &mut [u8]) -> bool {
+    let Some(start) = buffer.get_mut(..bytes.len()) else {
+        return false;
+    };
+    start.copy_from_slice(bytes);
+    true
 }

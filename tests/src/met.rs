@@ -4,7 +4,7 @@
 use crate::generate::{case, Case, KINDS};
 use crate::levels::LEVELS;
 use crate::store::Store;
-use crate::{image, outcome, Answer, Outcome, Verdict};
+use crate::{outcome, Call, Outcome, Refusal, Taken, Verdict};
 use std::collections::{BTreeMap, BTreeSet};
 
 #[derive(Default)]
@@ -15,34 +15,41 @@ pub struct Met {
     planted: BTreeMap<u8, BTreeSet<usize>>,
     /// Two codes planted together: in all, and in one record.
     pairs: BTreeMap<(u8, u8), (usize, usize)>,
-    /// Answers with each code.
-    codes: BTreeMap<u8, usize>,
+    /// Answers of each call with each code.
+    codes: BTreeMap<(Call, u8), usize>,
     /// Files by the levels that refuse them.
     combinations: BTreeMap<String, usize>,
     /// Refusals of each level by each of its clauses.
     clauses: BTreeMap<(&'static str, u8), usize>,
-    /// The longest of the files judged, and of their images.
+    /// The failures of SER, as code 16 names them.
+    ser_failures: BTreeSet<Refusal>,
+    /// The longest of the files judged, and of what each call writes of them.
     longest_file: usize,
-    longest_image: usize,
+    longest_written: BTreeMap<Call, usize>,
 }
 
 impl Met {
-    /// Counts the files of some seeds, and the answers that each is found to
-    /// get, what the model says of it being known.
+    /// Counts the files of some seeds, and the codes that each is found to get
+    /// from the calls, what the model says of it being known.
     pub fn of(
         seeds: impl Iterator<Item = u64>,
-        mut answers: impl FnMut(u64, &Case, &Outcome) -> Vec<Answer>,
+        mut codes: impl FnMut(u64, &Case, &Outcome) -> Vec<(Call, u8)>,
     ) -> Met {
         let mut met = Met::default();
         for seed in seeds {
             let case = case(seed);
             let outcome = outcome(&case.bytes);
             met.file(&case);
-            if let Ok((report, image)) = &outcome {
-                met.judged(&case.bytes, image.len(), &report.verdicts);
+            if let Ok(taken) = &outcome {
+                met.taken(&case.bytes, taken);
             }
-            for answer in answers(seed, &case, &outcome) {
-                *met.codes.entry(answer.code()).or_default() += 1;
+            for call in Call::ALL {
+                let written = call.written(&outcome).map_or(0, <[u8]>::len);
+                let longest = met.longest_written.entry(call).or_default();
+                *longest = written.max(*longest);
+            }
+            for code in codes(seed, &case, &outcome) {
+                *met.codes.entry(code).or_default() += 1;
             }
         }
         met
@@ -65,16 +72,19 @@ impl Met {
         }
     }
 
-    /// Counts the verdicts on a file that was judged.
-    fn judged(&mut self, file: &[u8], image_len: usize, verdicts: &[Verdict; 10]) {
+    /// Counts the verdicts on a file that is taken.
+    fn taken(&mut self, file: &[u8], taken: &Taken) {
+        let verdicts = &taken.report.verdicts;
         for (level, verdict) in LEVELS.iter().zip(verdicts) {
             if let Verdict::Refused { clause, .. } = verdict {
                 *self.clauses.entry((level.name, *clause)).or_default() += 1;
             }
         }
         *self.combinations.entry(refusing(verdicts)).or_default() += 1;
+        if let Err(refusal) = taken.replay {
+            self.ser_failures.insert(refusal);
+        }
         self.longest_file = self.longest_file.max(file.len());
-        self.longest_image = self.longest_image.max(image_len);
     }
 
     /// Takes the counts of another run in.
@@ -98,8 +108,12 @@ impl Met {
         for (clause, count) in other.clauses {
             *self.clauses.entry(clause).or_default() += count;
         }
+        self.ser_failures.extend(other.ser_failures);
         self.longest_file = self.longest_file.max(other.longest_file);
-        self.longest_image = self.longest_image.max(other.longest_image);
+        for (call, length) in other.longest_written {
+            let longest = self.longest_written.entry(call).or_default();
+            *longest = length.max(*longest);
+        }
     }
 
     pub fn print(&self) {
@@ -115,9 +129,9 @@ impl Met {
         for ((one, other), (files, in_one_record)) in &self.pairs {
             println!("  {one} and {other}: {files}, {in_one_record}");
         }
-        println!("answers with each code, over all lengths of the buffer");
-        for (code, count) in &self.codes {
-            println!("  {code}: {count}");
+        println!("answers of each call with each code, over all lengths of the buffer");
+        for ((call, code), count) in &self.codes {
+            println!("  {} {code}: {count}", call.name());
         }
         println!("files that each level refuses, by clause");
         for ((level, clause), count) in &self.clauses {
@@ -128,10 +142,25 @@ impl Met {
             println!("  {combination}: {count}");
         }
         println!("{} combinations", self.combinations.len());
-        println!(
-            "longest file {}, longest image {}",
-            self.longest_file, self.longest_image
-        );
+        let [records, keys, versions] = self.named_by_16();
+        println!("named by code 16: {records} records, {keys} keys, {versions} versions");
+        println!("longest file {}", self.longest_file);
+        for (call, length) in &self.longest_written {
+            println!("longest that {} writes: {length}", call.name());
+        }
+    }
+
+    /// How many different records, keys and versions code 16 names.
+    fn named_by_16(&self) -> [usize; 3] {
+        let different = |named: fn(&Refusal) -> usize| {
+            let named: BTreeSet<usize> = self.ser_failures.iter().map(named).collect();
+            named.len()
+        };
+        [
+            different(|refusal| refusal.record),
+            different(|refusal| refusal.key),
+            different(|refusal| refusal.version),
+        ]
     }
 
     /// Fails if something was never met.
@@ -148,9 +177,10 @@ impl Met {
                 assert!(self.pairs.contains_key(&pair), "{pair:?} never planted");
             }
         }
-        for code in 0..=15 {
-            assert!(self.codes.contains_key(&code), "code {code} was never met");
-        }
+        let met: BTreeSet<(Call, u8)> = self.codes.keys().copied().collect();
+        assert_eq!(met, possible_codes());
+        let named = self.named_by_16();
+        assert!(named.iter().all(|&different| different >= 10), "{named:?}");
         for level in &LEVELS {
             for &clause in level.clauses {
                 let pair = (level.name, clause);
@@ -160,8 +190,21 @@ impl Met {
         let met: BTreeSet<String> = self.combinations.keys().cloned().collect();
         assert_eq!(met, possible_combinations());
         assert_eq!(self.longest_file, Store::MAX_BYTES);
-        assert_eq!(self.longest_image, image::LONGEST);
+        for call in Call::ALL {
+            assert_eq!(self.longest_written[&call], call.longest(), "{call:?}");
+        }
     }
+}
+
+/// The codes of each call: none, 1 to 14, and its own.
+fn possible_codes() -> BTreeSet<(Call, u8)> {
+    let mut codes = BTreeSet::new();
+    for call in Call::ALL {
+        let common = 0..=14;
+        let own = call.own_codes().iter().copied();
+        codes.extend(common.chain(own).map(|code| (call, code)));
+    }
+    codes
 }
 
 /// The levels that refuse a trace together, in report order.

@@ -2,14 +2,19 @@
 //! ends with one line feed.
 
 use crate::levels::LEVELS;
-use crate::{Answer, Verdict};
+use crate::{Answer, Refusal, Verdict};
+
+/// The line of a refusal.
+pub fn refused(refusal: &Refusal) -> String {
+    format!(
+        "refused {} record {} key {} version {}\n",
+        refusal.code, refusal.record, refusal.key, refusal.version
+    )
+}
 
 pub fn report(answer: &Answer) -> String {
     match answer {
-        Answer::Refused(refusal) => format!(
-            "refused {} record {} key {} version {}\n",
-            refusal.code, refusal.record, refusal.key, refusal.version
-        ),
+        Answer::Refused(refusal) => refused(refusal),
         Answer::Judged(report) => {
             let mut text = format!("records {} commits {}\n", report.records, report.commits);
             for (level, verdict) in LEVELS.iter().zip(&report.verdicts) {

@@ -1,15 +1,10 @@
-//! An answer as words: `crates/words/specs/Layout.antt`.
+//! Answers as words: `crates/words/specs/Layout.antt`.
 
-use crate::{Answer, Verdict};
+use crate::{Answer, Refusal, Replay, Verdict};
 
-pub fn words(answer: &Answer) -> Vec<u64> {
+pub fn judge_words(answer: &Answer) -> Vec<u64> {
     match *answer {
-        Answer::Refused(refusal) => {
-            let named = [refusal.record, refusal.key, refusal.version, 0];
-            let mut words = vec![refusal.code.into()];
-            words.extend(named.map(|number| number as u64));
-            words
-        }
+        Answer::Refused(refusal) => refusal_words(&refusal),
         Answer::Judged(report) => {
             let numbers = [0, report.records, report.commits, report.image_len];
             let mut words = numbers.map(|number| number as u64).to_vec();
@@ -28,4 +23,19 @@ pub fn words(answer: &Answer) -> Vec<u64> {
             words
         }
     }
+}
+
+pub fn replay_words(answer: &Replay) -> Vec<u64> {
+    match *answer {
+        Replay::Refused(refusal) => refusal_words(&refusal),
+        Replay::Written(length) => vec![0, length as u64],
+    }
+}
+
+/// The same for all calls.
+fn refusal_words(refusal: &Refusal) -> Vec<u64> {
+    let named = [refusal.record, refusal.key, refusal.version, 0];
+    let mut words = vec![refusal.code.into()];
+    words.extend(named.map(|number| number as u64));
+    words
 }

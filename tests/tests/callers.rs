@@ -3,15 +3,13 @@
 //! crate for Rust have the same numbers and tables, and no call takes more
 //! stack than they say.
 
-mod common;
-
-use common::printed;
 use model::files::{at, files, report_of};
-use model::generate::{exactly_full, file, largest};
+use model::generate::{exactly_full, file, largest, largest_serial};
 use model::levels::{place_of, LEVELS};
+use model::programs::{printed, run, Said};
 use model::random::Random;
 use model::trace::encode;
-use model::{judge_with_room, Answer, Verdict};
+use model::{judge_with_room, replay, Answer, Call, Replay, Verdict};
 use std::fs::{self, File, OpenOptions};
 use std::io::Write;
 use std::path::{Path, PathBuf};
@@ -19,8 +17,8 @@ use std::process::{Command, Stdio};
 use std::thread;
 
 /// What `keeps_si` must print for a file: whether it kept SI.
-fn keeps_si(file: &[u8]) -> String {
-    match judge_with_room(file) {
+fn keeps_si(file: &[u8]) -> Said {
+    let text = match judge_with_room(file) {
         Answer::Refused(refusal) => {
             format!("code {} at record {}\n", refusal.code, refusal.record)
         }
@@ -28,20 +26,42 @@ fn keeps_si(file: &[u8]) -> String {
             Verdict::Accepted => "yes\n".to_string(),
             Verdict::Refused { record, .. } => format!("no, see record {record}\n"),
         },
+    };
+    (text.into_bytes(), String::new())
+}
+
+/// What `print_report` must print.
+fn print_report(file: &[u8]) -> Said {
+    (report_of(file).into_bytes(), String::new())
+}
+
+/// What `write_replay` must write: the replay, or why there is none.
+fn write_replay(file: &[u8]) -> Said {
+    let mut buffer = vec![0; consistency::LONGEST_REPLAY];
+    match replay(file, &mut buffer) {
+        Replay::Refused(refusal) => {
+            let told = format!("code {} at record {}\n", refusal.code, refusal.record);
+            (Vec::new(), told)
+        }
+        Replay::Written(length) => (buffer[..length].to_vec(), String::new()),
     }
 }
 
-/// An example prints what is due for each file, ends on an input that does not,
-/// and takes no failure for an answer.
-fn check(example: &Path, due: fn(&[u8]) -> String) {
+/// An example says what is due for each file, and its status says if it told of
+/// something; it ends on an input that does not, and takes no failure for an
+/// answer.
+fn check(example: &Path, due: fn(&[u8]) -> Said) {
     for (name, trace) in files() {
-        let said = printed(&mut Command::new(example), &trace.bytes, usize::MAX);
-        assert_eq!(said, due(&trace.bytes), "{name}");
+        let output = run(&mut Command::new(example), &trace.bytes, usize::MAX);
+        let (written, told) = due(&trace.bytes);
+        assert_eq!(output.stdout, written, "{name}");
+        assert_eq!(String::from_utf8_lossy(&output.stderr), told, "{name}");
+        assert_eq!(output.status.success(), told.is_empty(), "{name}");
     }
-    ends(example, &due(&[0; consistency::LONGEST_FILE + 1]));
+    ends(example, due(&[0; consistency::LONGEST_FILE + 1]));
     let folder = File::open(at("examples")).expect("a folder");
     fails(Command::new(example).stdin(folder));
-    let file = File::open(at("examples/B-lost-update")).expect("a trace file");
+    let file = File::open(at("examples/E-lost-view")).expect("a trace file");
     let full = OpenOptions::new().write(true).open("/dev/full");
     fails(
         Command::new(example)
@@ -51,10 +71,11 @@ fn check(example: &Path, due: fn(&[u8]) -> String) {
 }
 
 /// It has an answer long before it has read all of 64 MiB.
-fn ends(example: &Path, due: &str) {
+fn ends(example: &Path, (written, told): Said) {
     let mut child = Command::new(example)
         .stdin(Stdio::piped())
         .stdout(Stdio::piped())
+        .stderr(Stdio::piped())
         .spawn()
         .expect("the example starts");
     let mut stdin = child.stdin.take().expect("it is piped");
@@ -63,7 +84,8 @@ fn ends(example: &Path, due: &str) {
     assert!(taken.count() < 1024, "{} reads on", example.display());
     drop(stdin);
     let output = child.wait_with_output().expect("the example ends");
-    assert_eq!(String::from_utf8_lossy(&output.stdout), due);
+    assert_eq!(output.stdout, written);
+    assert_eq!(String::from_utf8_lossy(&output.stderr), told);
 }
 
 /// It prints nothing, and its status says that it failed.
@@ -73,7 +95,7 @@ fn fails(example: &mut Command) {
     assert_eq!(String::from_utf8_lossy(&output.stdout), "", "{example:?}");
 }
 
-fn run(command: &mut Command) {
+fn succeeds(command: &mut Command) {
     let status = command
         .status()
         .unwrap_or_else(|error| panic!("{command:?}: {error}"));
@@ -97,50 +119,60 @@ fn compiler(words: &str) -> Command {
 /// The program of this name, compiled from a source with the library.
 fn compiled(name: &str, words: &str, source: &str) -> PathBuf {
     let program = room().join(name);
-    run(compiler(words)
-        .arg("-o")
-        .arg(&program)
-        .arg(at(source))
-        .args(["-x", "none"])
-        .arg(at("target/staticlib/libconsistency.a")));
+    succeeds(
+        compiler(words)
+            .arg("-o")
+            .arg(&program)
+            .arg(at(source))
+            .args(["-x", "none"])
+            .arg(at("target/staticlib/libconsistency.a")),
+    );
     program
 }
 
 #[test]
 fn what_the_examples_must_say() {
-    let all: Vec<String> = files()
-        .iter()
-        .map(|(_, trace)| keeps_si(&trace.bytes))
-        .collect();
-    assert_eq!(all[1], "no, see record 2\n");
-    assert_eq!(all[3], "yes\n");
-    assert_eq!(all[11], "code 1 at record 0\n");
+    let all: Vec<Vec<u8>> = files().into_iter().map(|(_, trace)| trace.bytes).collect();
+    let printed = |text: &str| (text.as_bytes().to_vec(), String::new());
+    assert_eq!(keeps_si(&all[1]), printed("no, see record 2\n"));
+    assert_eq!(keeps_si(&all[3]), printed("yes\n"));
+    assert_eq!(keeps_si(&all[11]), printed("code 1 at record 0\n"));
+    let told = (Vec::new(), "code 16 at record 2\n".to_string());
+    assert_eq!(write_replay(&all[1]), told);
+    assert_eq!(write_replay(&all[4]).0.len(), 92);
 }
 
 #[test]
 fn from_rust() {
-    run(Command::new(env!("CARGO"))
-        .args(["build", "--offline", "--quiet", "--example", "keeps_si"])
-        .arg("--target-dir")
-        .arg(room().join("rust"))
-        .current_dir(at("bindings/rust")));
+    succeeds(
+        Command::new(env!("CARGO"))
+            .args(["build", "--offline", "--quiet", "--example", "keeps_si"])
+            .arg("--target-dir")
+            .arg(room().join("rust"))
+            .current_dir(at("bindings/rust")),
+    );
     check(&room().join("rust/debug/examples/keeps_si"), keeps_si);
 }
 
 #[test]
 fn from_c() {
-    let program = compiled("keeps_si", "gcc -std=c99", "bindings/c/keeps_si.c");
+    let words = "gcc -std=c99";
+    let program = compiled("keeps_si", words, "bindings/c/keeps_si.c");
     check(&program, keeps_si);
+    let program = compiled("write_replay", words, "bindings/c/write_replay.c");
+    check(&program, write_replay);
 }
 
-/// The example in C is one in C++ too.
+/// The examples in C are examples in C++ too.
 #[test]
 fn from_cpp() {
     let words = "g++ -std=c++11 -x c++";
     let program = compiled("keeps_si_cpp", words, "bindings/c/keeps_si.c");
     check(&program, keeps_si);
+    let program = compiled("write_replay_cpp", words, "bindings/c/write_replay.c");
+    check(&program, write_replay);
     let program = compiled("print_report", words, "bindings/c/print_report.cc");
-    check(&program, report_of);
+    check(&program, print_report);
 }
 
 /// It needs nothing before it.
@@ -148,7 +180,7 @@ fn from_cpp() {
 fn the_header_alone() {
     for words in ["gcc -std=c99 -x c", "g++ -std=c++11 -x c++"] {
         let header = at("bindings/c/consistency.h");
-        run(compiler(words).arg("-fsyntax-only").arg(header));
+        succeeds(compiler(words).arg("-fsyntax-only").arg(header));
     }
 }
 
@@ -180,11 +212,14 @@ fn the_numbers_of_the_header() {
     };
     defines("LONGEST_FILE", consistency::LONGEST_FILE);
     defines("LONGEST_IMAGE", consistency::LONGEST_IMAGE);
+    defines("LONGEST_REPLAY", consistency::LONGEST_REPLAY);
     defines("LONGEST_REPORT", consistency::LONGEST_REPORT);
     defines("NO_ROOM", consistency::NO_ROOM as usize);
     defines("REFUSAL_WORDS", consistency::REFUSAL_WORDS);
     defines("JUDGE_WORDS", consistency::JUDGE_WORDS);
     defines("JUDGE_STACK", consistency::JUDGE_STACK);
+    defines("REPLAY_WORDS", consistency::REPLAY_WORDS);
+    defines("REPLAY_STACK", consistency::REPLAY_STACK);
     defines("REPORT_STACK", consistency::REPORT_STACK);
     let places: Vec<String> = (0..LEVELS.len())
         .map(|place| format!("    CONSISTENCY_{} = {}", LEVELS[place].name, 4 + 4 * place))
@@ -228,11 +263,31 @@ fn the_table_of_codes() {
         &["code", "refused since", "names"],
     );
     let long = table("docs/FORMAT.md", &["code", "when", "names", "what to do"]);
-    assert_eq!(long[0][..2], ["0", "judged"]);
+    assert_eq!(long[0][..2], ["0", "judged, or the replay is written"]);
     assert_eq!(codes.len(), long.len() - 1);
     for (code, long) in codes.iter().zip(&long[1..]) {
         assert_eq!([&code[0], &code[2]], [&long[0], &long[2]]);
     }
+}
+
+/// Each call with its codes, in the order of its tests.
+#[test]
+fn the_table_of_calls() {
+    let head = ["call", "codes"];
+    let due = |name: fn(&str) -> String| -> Vec<Vec<String>> {
+        let row = |call: Call| {
+            let own = call.own_codes().iter();
+            let own: String = own.map(|code| format!(", then {code}")).collect();
+            vec![name(call.name()), format!("1 to 14{own}")]
+        };
+        Call::ALL.map(row).to_vec()
+    };
+    let header = due(|name| format!("{name}_file"));
+    assert_eq!(table("bindings/c/consistency.h", &head), header);
+    let rust = due(|name| format!("[`{name}`](crate::{name})"));
+    assert_eq!(table("bindings/rust/src/refusal.rs", &head), rust);
+    let format = due(|name| format!("`{name}_file`"));
+    assert_eq!(table("docs/FORMAT.md", &head), format);
 }
 
 #[test]
@@ -267,7 +322,8 @@ fn all_sorts() -> Vec<Vec<u8>> {
     let examples = files().into_iter().map(|(_, trace)| trace.bytes);
     let large = (0..4).flat_map(|seed| {
         let mut random = Random::seeded(seed);
-        [largest(&mut random), exactly_full(&mut random)].map(|built| encode(&built.trace))
+        let large = [largest, largest_serial, exactly_full];
+        large.map(|built| encode(&built(&mut random).trace))
     });
     examples.chain(large).chain((0..1_000).map(file)).collect()
 }
@@ -285,9 +341,10 @@ fn the_stack_of_each_call() {
     }
     for (call, promised) in [
         ("judge_file", consistency::JUDGE_STACK),
+        ("replay_file", consistency::REPLAY_STACK),
         ("report_file", consistency::REPORT_STACK),
     ] {
-        let said = printed(Command::new(&program).arg(call), &input, usize::MAX);
+        let said = printed(Command::new(&program).arg(call), &input);
         let taken: usize = said.trim().parse().expect("a number");
         println!("{call}: {taken} bytes of stack, {promised} promised");
         assert!(0 < taken && taken <= promised, "{call}");
@@ -301,13 +358,13 @@ const THREAD: usize = 16_384;
 #[test]
 fn the_stack_of_each_call_in_rust() {
     let files = all_sorts();
-    let mut image = vec![0; consistency::LONGEST_IMAGE];
+    let mut buffer = vec![0; consistency::LONGEST_IMAGE.max(consistency::LONGEST_REPLAY)];
     let mut text = vec![0; consistency::LONGEST_REPORT];
     let mut on_a_thread = |stack: usize, call: fn(&[u8], &mut [u8], &mut [u8])| {
         let calls = || {
             files
                 .iter()
-                .for_each(|file| call(file, &mut image, &mut text))
+                .for_each(|file| call(file, &mut buffer, &mut text))
         };
         thread::scope(|scope| {
             let thread = thread::Builder::new().stack_size(stack + THREAD);
@@ -316,6 +373,9 @@ fn the_stack_of_each_call_in_rust() {
     };
     on_a_thread(consistency::JUDGE_STACK, |file, image, _| {
         consistency::judge(file, image);
+    });
+    on_a_thread(consistency::REPLAY_STACK, |file, buffer, _| {
+        consistency::replay(file, buffer);
     });
     on_a_thread(consistency::REPORT_STACK, |file, image, text| {
         consistency::report(file, image, text);

@@ -1,9 +1,12 @@
 //! The example traces against the model.
 
-use model::buffer::{pattern, untouched, LONG};
-use model::example_traces::{all, trace_a, trace_b, Expected};
+use model::buffer::{pattern, untouched, LONG, LONG_FILE};
+use model::example_traces::{all, trace_a, trace_b, trace_e, Expected};
+use model::generate::largest_serial;
+use model::levels::place_of;
+use model::random::Random;
 use model::trace::{encode, with_true_length};
-use model::{judge, report, Answer};
+use model::{judge, outcome, replay, report, Answer, Refusal, Replay, Verdict};
 
 #[test]
 fn all_example_traces() {
@@ -108,6 +111,112 @@ fn short_image_buffer() {
         assert_eq!((refusal.code, refusal.record), (15, 0));
         assert!(untouched(&image, 0));
     }
+}
+
+/// The trace's own refusal; SER's failure as code 16; or a file that ends in
+/// the same image, and that all levels accept.
+#[test]
+fn replays_of_all_example_traces() {
+    for example in all() {
+        let mut buffer = pattern(LONG_FILE);
+        let answer = replay(&example.bytes, &mut buffer);
+        let written = match (answer, example.expected) {
+            (Replay::Refused(refusal), Expected::Refused(expected)) => {
+                assert_eq!(refusal, expected, "trace {}", example.name);
+                0
+            }
+            (Replay::Refused(refusal), Expected::Judged(expected)) => {
+                let Verdict::Refused {
+                    record,
+                    key,
+                    version,
+                    ..
+                } = expected[place_of("SER")]
+                else {
+                    panic!("trace {}: {refusal:?}", example.name)
+                };
+                let named = (refusal.record, refusal.key, refusal.version);
+                assert_eq!(refusal.code, 16, "trace {}", example.name);
+                assert_eq!(named, (record, key, version), "trace {}", example.name);
+                0
+            }
+            (Replay::Written(length), Expected::Judged(expected)) => {
+                let ser = expected[place_of("SER")];
+                assert_eq!(ser, Verdict::Accepted, "trace {}", example.name);
+                let again = outcome(&buffer[..length]).expect("it is taken");
+                let image = outcome(&example.bytes).expect("it is taken").image;
+                assert!(again.image == image, "trace {}", example.name);
+                assert_eq!(again.report.verdicts, [Verdict::Accepted; 10]);
+                length
+            }
+            _ => panic!("trace {}: {answer:?}", example.name),
+        };
+        assert!(untouched(&buffer, written), "trace {}", example.name);
+    }
+}
+
+/// Without a commit nothing is to be replayed.
+#[test]
+fn replay_of_a() {
+    let file = encode(&trace_a());
+    let mut buffer = pattern(13);
+    assert_eq!(replay(&file, &mut buffer), Replay::Written(12));
+    assert_eq!(buffer[..12], file);
+    assert!(untouched(&buffer, 12));
+}
+
+/// Whatever the buffer is: 16 comes before 17.
+#[test]
+fn replay_of_b() {
+    for length in [0, 11, 12, LONG_FILE] {
+        let mut buffer = pattern(length);
+        let due = Refusal {
+            code: 16,
+            record: 2,
+            key: 0,
+            version: 1,
+        };
+        let answer = replay(&encode(&trace_b()), &mut buffer);
+        assert_eq!(answer, Replay::Refused(due));
+        assert!(untouched(&buffer, 0));
+    }
+}
+
+#[test]
+fn replay_of_e() {
+    let mut due = vec![92, 0, 0, 0];
+    due.extend([8, 0, 1, 0, 1, 2, 4, 0]); // 1 key, 2 clients, 4 records
+    due.extend([14, 0, 2, 0, 0, 0, 1, 0, 0, 0, 0, 0, 0, 0]); // client 0 sees version 0
+    due.extend([26, 0, 3, 0, 0, 1, 0, 0, 0, 0]); // and commits, number 0,
+    due.extend([1, 0, 0, 0, 1, 0, 0, 0]); // a write of 1,
+    due.extend([3, 0, 0, 0, 0, 0, 0, 0]); // and sees version 1 too
+    due.extend([14, 0, 2, 0, 1, 0, 3, 0, 0, 0, 0, 0, 0, 0]); // client 1 sees both
+    due.extend([26, 0, 3, 0, 1, 1, 0, 0, 0, 0]); // and commits, number 0,
+    due.extend([0, 0, 0, 0, 1, 0, 0, 0]); // a read of 1,
+    due.extend([3, 0, 0, 0, 0, 0, 0, 0]); // and sees both still
+    let file = encode(&trace_e());
+    for length in 0..92 {
+        let mut buffer = pattern(length);
+        let answer = replay(&file, &mut buffer);
+        assert_eq!(answer, Replay::Refused(Refusal::at(17, 0)));
+        assert!(untouched(&buffer, 0));
+    }
+    for length in 92..100 {
+        let mut buffer = pattern(length);
+        assert_eq!(replay(&file, &mut buffer), Replay::Written(92));
+        assert_eq!(buffer[..92], due);
+        assert!(untouched(&buffer, 92));
+    }
+}
+
+#[test]
+fn the_longest_replay() {
+    let file = encode(&largest_serial(&mut Random::seeded(1)).trace);
+    let mut buffer = pattern(LONG_FILE);
+    let length = 12 + 63 * (16 + 32 * 16);
+    assert_eq!(length, 33_276);
+    assert_eq!(replay(&file, &mut buffer), Replay::Written(length));
+    assert!(untouched(&buffer, length));
 }
 
 #[test]

@@ -1,9 +1,10 @@
 //! The files that the repository keeps are those of the model. Where one is
 //! not, `cargo run --offline --example write_traces` writes them again.
 
-use model::example_traces::trace_b;
+use model::example_traces::{trace_b, trace_e};
 use model::files::{arguments, at, files, printed, report_of};
 use model::trace::encode;
+use model::{outcome, Call};
 use std::collections::BTreeSet;
 use std::fs;
 
@@ -55,4 +56,29 @@ fn what_the_programs_read_and_print() {
     assert_eq!(kept("crates/judge/stdout"), report_of(&b).as_bytes());
     assert_eq!(kept("crates/vectors/args"), arguments().as_bytes());
     assert_eq!(kept("crates/vectors/stdout"), printed().as_bytes());
+}
+
+/// The bytes at the start of the lines below a head of docs/FORMAT.md.
+fn bytes_below(head: &str) -> Vec<u8> {
+    let format = String::from_utf8(kept("docs/FORMAT.md")).expect("text");
+    let (_, example) = format.split_once(head).expect("a head");
+    let byte = |word: &str| match word.len() {
+        2 => u8::from_str_radix(word, 16).ok(),
+        _ => None,
+    };
+    example
+        .lines()
+        .skip_while(|line| !line.starts_with("    "))
+        .take_while(|line| line.starts_with("    "))
+        .flat_map(|line| line.split_whitespace().map_while(byte))
+        .collect()
+}
+
+#[test]
+fn the_examples_of_the_formats() {
+    let b = encode(&trace_b());
+    assert_eq!(bytes_below("\n### Example: a lost update\n"), b);
+    let e = outcome(&encode(&trace_e()));
+    let replay = Call::Replay.written(&e).expect("SER accepts");
+    assert_eq!(bytes_below("\n### Example: a view that was lost\n"), replay);
 }

@@ -1,15 +1,14 @@
 //! Generated files through the model: what is known of each answer, demand 3
 //! on the taken ones, and a count of everything that was met.
 
-use model::buffer::{pattern, untouched, LONG};
+use model::buffer::{pattern, untouched};
 use model::facts::{
     accepts, demand_3_holds, has_ring_without_adjacent_rw, has_ring_without_adjacent_rw_by_closure,
-    taken,
 };
 use model::generate::{file, Case, Expected};
 use model::met::{possible_combinations, Met};
 use model::random::Random;
-use model::{answer, replay, report, Answer, Outcome};
+use model::{answer, report, Answer, Call, Outcome};
 use std::collections::BTreeSet;
 
 const FILES: u64 = 20_000;
@@ -19,12 +18,13 @@ fn generated_files() {
     let (mut rings, mut replays) = (0, 0);
     let met = Met::of(0..FILES, |seed, case, outcome| {
         check_expected(seed, case, outcome);
-        let (ring, replayed) = check_facts(seed, case, outcome);
+        let (ring, replayed) = check_facts(seed, outcome);
         rings += ring as usize;
         replays += replayed as usize;
-        let buffers = buffers(seed, outcome).into_iter();
-        buffers
-            .map(|(length, code)| check_buffer(seed, outcome, length, code))
+        check_lines(seed, outcome);
+        let calls = Call::ALL.into_iter();
+        calls
+            .flat_map(|call| check_buffers(seed, call, outcome))
             .collect()
     });
     met.print();
@@ -66,49 +66,80 @@ fn check_expected(seed: u64, case: &Case, outcome: &Outcome) {
     }
 }
 
-/// Demand 3 on a file that is taken, and no replay of another. Answers whether
-/// there is a ring without two RW links side by side, and whether SER accepts.
-fn check_facts(seed: u64, case: &Case, outcome: &Outcome) -> (bool, bool) {
-    let Ok((report, _)) = outcome else {
-        assert!(replay(&case.bytes).is_empty(), "seed {seed}");
+/// Demand 3 on a file that is taken. Answers whether there is a ring without
+/// two RW links side by side, and whether there is a replay.
+fn check_facts(seed: u64, outcome: &Outcome) -> (bool, bool) {
+    let Ok(taken) = outcome else {
         return (false, false);
     };
-    if let Err(fact) = demand_3_holds(&case.bytes, report) {
+    if let Err(fact) = demand_3_holds(taken) {
         panic!("seed {seed}: {fact}");
     }
-    let (_, run) = taken(&case.bytes).expect("it was judged");
-    let ring = has_ring_without_adjacent_rw(&run.store);
-    assert_eq!(ring, has_ring_without_adjacent_rw_by_closure(&run.store));
-    (ring, accepts(report, "SER"))
+    let ring = has_ring_without_adjacent_rw(&taken.store);
+    assert_eq!(ring, has_ring_without_adjacent_rw_by_closure(&taken.store));
+    (ring, taken.replay.is_ok())
 }
 
-/// The lengths of buffers to try, and the code that is due with each: one as
-/// long as the image is enough, a shorter one is code 15.
-fn buffers(seed: u64, outcome: &Outcome) -> Vec<(usize, u8)> {
-    match outcome {
-        Err(refusal) => {
-            assert!((1..=14).contains(&refusal.code), "seed {seed}");
-            vec![(LONG, refusal.code)]
-        }
-        Ok((_, image)) => {
-            let short = Random::seeded(seed).below(image.len());
-            let (last, enough) = (image.len() - 1, image.len());
-            vec![(short, 15), (last, 15), (enough, 0), (LONG, 0)]
-        }
+/// The report has eleven lines or one.
+fn check_lines(seed: u64, outcome: &Outcome) {
+    let long = answer(outcome, &mut pattern(Call::Judge.long()));
+    let lines = match long {
+        Answer::Refused(_) => 1,
+        Answer::Judged(_) => 11,
+    };
+    let text = report(&long);
+    assert!(text.ends_with('\n'), "seed {seed}");
+    assert_eq!(text.matches('\n').count(), lines, "seed {seed}");
+}
+
+/// A call on a file, with buffers of some lengths: the codes that it answers.
+fn check_buffers(seed: u64, call: Call, outcome: &Outcome) -> Vec<(Call, u8)> {
+    let buffers = buffers(seed, call, outcome);
+    for &(length, code) in &buffers {
+        check_buffer(seed, call, outcome, length, code);
+    }
+    buffers.into_iter().map(|(_, code)| (call, code)).collect()
+}
+
+/// The lengths of buffers to try, and the code that is due with each: a file
+/// that is refused gets its code whatever the buffer is; for another a buffer
+/// as long as what is written is enough, and a shorter one gets the last code.
+fn buffers(seed: u64, call: Call, outcome: &Outcome) -> Vec<(usize, u8)> {
+    if let Some(code) = refused(call, outcome) {
+        return vec![(0, code), (call.long(), code)];
+    }
+    let short = match call {
+        Call::Judge => 15,
+        Call::Replay => 17,
+    };
+    let needed = call.written(outcome).expect("it is written").len();
+    vec![
+        (Random::seeded(seed).below(needed), short),
+        (needed - 1, short),
+        (needed, 0),
+        (call.long(), 0),
+    ]
+}
+
+/// The code that a call has for a file before it looks at the buffer.
+fn refused(call: Call, outcome: &Outcome) -> Option<u8> {
+    match (call, outcome) {
+        (_, Err(refusal)) => Some(refusal.code),
+        (Call::Replay, Ok(taken)) if !accepts(&taken.report, "SER") => Some(16),
+        _ => None,
     }
 }
 
-/// Nothing but the image changes, and the report has eleven lines or one.
-fn check_buffer(seed: u64, outcome: &Outcome, length: usize, code: u8) -> Answer {
+/// Nothing but what is written changes, and a refusal writes nothing.
+fn check_buffer(seed: u64, call: Call, outcome: &Outcome, length: usize, code: u8) {
+    let name = format!("seed {seed}, {}, buffer of {length}", call.name());
     let mut buffer = pattern(length);
-    let answer = answer(outcome, &mut buffer);
-    let (changed, lines) = match &answer {
-        Answer::Refused(_) => (0, 1),
-        Answer::Judged(report) => (report.image_len, 11),
+    let words = call.words(outcome, &mut buffer);
+    assert_eq!(words[0], u64::from(code), "{name}");
+    let written = match code {
+        0 => call.written(outcome).expect("it is written"),
+        _ => &[],
     };
-    assert_eq!(answer.code(), code, "seed {seed}, buffer of {length}");
-    assert!(untouched(&buffer, changed), "seed {seed}");
-    let text = report(&answer);
-    assert!(text.ends_with('\n') && text.matches('\n').count() == lines);
-    answer
+    assert!(buffer.starts_with(written), "{name}");
+    assert!(untouched(&buffer, written.len()), "{name}");
 }

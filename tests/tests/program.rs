@@ -1,27 +1,31 @@
-//! The program `judge`, as `rt check judge` builds it: what it prints is the
-//! model's report of the bytes on its standard input.
+//! The programs, as `rt check` builds them: what each has to say of the bytes on
+//! its standard input is the model's. `judge` prints the report; `replay` writes
+//! the replay, or tells the refusal on standard error and writes nothing.
 
-mod common;
-
-use common::printed;
-use model::example_traces::trace_b;
-use model::files::{files, program, report_of};
-use model::generate::{case, exactly_full};
+use model::example_traces::{trace_b, trace_e};
+use model::files::files;
+use model::generate::{case, exactly_full, largest_serial};
 use model::met::{possible_combinations, refusing};
+use model::programs::{due, program, run, said, Said};
 use model::random::Random;
 use model::trace::{encode, with_true_length};
-use model::{judge_with_room, report, Answer};
+use model::{outcome, Call, Outcome, Refusal};
 use std::collections::BTreeMap;
 use std::process::Command;
 
 const WHOLE: usize = usize::MAX;
 
-fn check(name: &str, file: &[u8], due: &str) {
-    assert_eq!(
-        printed(&mut Command::new(program()), file, WHOLE),
-        due,
-        "{name}"
-    );
+/// What the program of a call says of an input that comes in pieces.
+fn says(call: Call, input: &[u8], at_a_time: usize) -> Said {
+    said(run(&mut Command::new(program(call)), input, at_a_time))
+}
+
+/// Both programs on one file.
+fn check(name: &str, file: &[u8], outcome: &Outcome) {
+    for call in Call::ALL {
+        let due = due(call, outcome);
+        assert!(says(call, file, WHOLE) == due, "{}, {name}", call.name());
+    }
 }
 
 /// Ten files of each code and of each combination of verdicts, or as many as
@@ -37,18 +41,18 @@ fn generated_files() {
     }
     for seed in 0..8_000 {
         let file = case(seed).bytes;
-        let answer = judge_with_room(&file);
-        let sort = match &answer {
-            Answer::Refused(refusal) => format!("code {}", refusal.code),
-            Answer::Judged(report) => refusing(&report.verdicts),
+        let outcome = outcome(&file);
+        let sort = match &outcome {
+            Err(refusal) => format!("code {}", refusal.code),
+            Ok(taken) => refusing(&taken.report.verdicts),
         };
         let files = met.get_mut(&sort).expect("a code or a combination");
         if *files < 10 {
             *files += 1;
-            check(&format!("seed {seed}"), &file, &report(&answer));
+            check(&format!("seed {seed}"), &file, &outcome);
         }
     }
-    println!("reports compared: {met:#?}");
+    println!("files compared: {met:#?}");
     println!("together: {}", met.values().sum::<usize>());
     for (sort, files) in met {
         assert!(files > 0, "{sort} was never met");
@@ -58,13 +62,13 @@ fn generated_files() {
 #[test]
 fn examples() {
     for (name, example) in files() {
-        check(name, &example.bytes, &report_of(&example.bytes));
+        check(name, &example.bytes, &outcome(&example.bytes));
     }
 }
 
 #[test]
 fn no_input() {
-    check("nothing", &[], "refused 1 record 0 key 0 version 0\n");
+    check("nothing", &[], &Err(Refusal::at(1, 0)));
 }
 
 #[test]
@@ -72,10 +76,10 @@ fn every_truncation_of_the_lost_update() {
     let b = encode(&trace_b());
     for length in 0..b.len() {
         let cut = &b[..length];
-        check("cut", cut, "refused 1 record 0 key 0 version 0\n");
+        check("cut", cut, &Err(Refusal::at(1, 0)));
         if length >= 4 {
             let cut = with_true_length(cut.to_vec());
-            check("cut, its length true", &cut, &report_of(&cut));
+            check("cut, its length true", &cut, &outcome(&cut));
         }
     }
 }
@@ -86,27 +90,41 @@ fn every_truncation_of_the_lost_update() {
 fn the_longest_input() {
     let full = encode(&exactly_full(&mut Random::seeded(1)).trace);
     assert_eq!(full.len(), 65_536);
-    let due = report_of(&full);
-    assert!(due.starts_with("records 368 commits 63\n"));
-    check("full", &full, &due);
+    let full_outcome = outcome(&full);
+    let (report, _) = due(Call::Judge, &full_outcome);
+    assert!(report.starts_with(b"records 368 commits 63\n"));
+    check("full", &full, &full_outcome);
     for more in [1, 2, 100, 65_536, 300_000] {
         let mut long = full.clone();
         long.resize(full.len() + more, 0);
         for file in [long.clone(), with_true_length(long)] {
-            assert_eq!(report_of(&file), "refused 1 record 0 key 0 version 0\n");
-            check("too long", &file, "refused 1 record 0 key 0 version 0\n");
+            check("too long", &file, &Err(Refusal::at(1, 0)));
         }
     }
+}
+
+/// It goes from one program to the other, and all levels accept it.
+#[test]
+fn the_longest_replay() {
+    let file = encode(&largest_serial(&mut Random::seeded(1)).trace);
+    let taken = outcome(&file);
+    check("largest", &file, &taken);
+    let (replay, _) = says(Call::Replay, &file, WHOLE);
+    assert_eq!(replay.len(), 33_276);
+    let (report, _) = says(Call::Judge, &replay, WHOLE);
+    let report = String::from_utf8(report).expect("text");
+    assert!(report.starts_with("records 126 commits 63\n"));
+    assert_eq!(report.matches(" accepted\n").count(), 10);
 }
 
 /// A file that comes in pieces is the file.
 #[test]
 fn input_in_pieces() {
-    let b = encode(&trace_b());
-    assert_eq!(printed(&mut Command::new(program()), &b, 1), report_of(&b));
     let full = encode(&exactly_full(&mut Random::seeded(2)).trace);
-    assert_eq!(
-        printed(&mut Command::new(program()), &full, 1_000),
-        report_of(&full)
-    );
+    for (file, at_a_time) in [(encode(&trace_e()), 1), (full, 1_000)] {
+        let outcome = outcome(&file);
+        for call in Call::ALL {
+            assert!(says(call, &file, at_a_time) == due(call, &outcome));
+        }
+    }
 }

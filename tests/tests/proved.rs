@@ -1,13 +1,17 @@
-//! The proved judge against the model on generated files, each with image
-//! buffers of many lengths.
+//! The proved calls against the model on generated files, each with buffers of
+//! many lengths.
 
-use consistency::{judge_words, JUDGE_WORDS, LONGEST_REPORT, NO_ROOM};
-use model::beside::{compare, lengths};
+use consistency::{
+    judge_words, replay, Replay, JUDGE_WORDS, LONGEST_REPLAY, LONGEST_REPORT, NO_ROOM,
+};
+use model::beside::{compare, in_words, lengths};
 use model::buffer::{pattern, untouched, LONG};
 use model::files::files;
-use model::generate::file;
+use model::generate::{file, largest_serial};
 use model::met::Met;
-use model::{judge, outcome, report};
+use model::random::Random;
+use model::trace::encode;
+use model::{judge, outcome, report, Call, Outcome};
 use std::thread;
 
 const FILES: u64 = 100_000;
@@ -18,15 +22,46 @@ fn compare_from(first: u64) -> Met {
     let seeds = (first..FILES).step_by(THREADS as usize);
     Met::of(seeds, |seed, case, outcome| {
         let name = format!("seed {seed}");
-        let lengths = lengths(outcome).into_iter();
-        lengths
-            .map(|length| compare(&name, &case.bytes, outcome, length))
+        read_back(&name, &case.bytes, outcome);
+        let calls = Call::ALL.into_iter();
+        calls
+            .flat_map(|call| compare_all(call, &name, &case.bytes, outcome))
             .collect()
     })
 }
 
+/// A call on one file, with buffers of all lengths that are tried.
+fn compare_all(call: Call, name: &str, file: &[u8], outcome: &Outcome) -> Vec<(Call, u8)> {
+    let lengths = lengths(call, outcome).into_iter();
+    lengths
+        .map(|length| (call, compare(call, name, file, outcome, length)))
+        .collect()
+}
+
+/// A replay that was written is judged: ten levels accept it, and it has the
+/// image of the trace. Its own replay is the same file.
+fn read_back(name: &str, file: &[u8], outcome: &Outcome) {
+    let Some(due) = Call::Replay.written(outcome) else {
+        return;
+    };
+    let mut buffer = vec![0; LONGEST_REPLAY];
+    assert_eq!(replay(file, &mut buffer), Replay::Written(due.len()));
+    let written = &buffer[..due.len()];
+
+    let image = Call::Judge.written(outcome).expect("it is taken");
+    let mut again = vec![0; image.len()];
+    let mut words = [7; JUDGE_WORDS];
+    assert_eq!(judge_words(written, &mut again, &mut words), 0, "{name}");
+    assert_eq!(words[4..], [0; JUDGE_WORDS - 4], "{name}: a level refuses");
+    assert!(again == image, "{name}: another image");
+
+    let mut again = vec![0; due.len()];
+    assert_eq!(replay(written, &mut again), Replay::Written(due.len()));
+    assert!(again == written, "{name}: another replay");
+}
+
 #[test]
-fn the_proved_judge_answers_as_the_model() {
+fn the_proved_calls_answer_as_the_model() {
     let threads: Vec<_> = (0..THREADS)
         .map(|first| thread::spawn(move || compare_from(first)))
         .collect();
@@ -49,22 +84,40 @@ fn first_files(seeds: u64) -> impl Iterator<Item = Vec<u8>> {
 fn every_length_of_the_buffer() {
     for (place, file) in first_files(60).enumerate() {
         let outcome = outcome(&file);
-        let needed = outcome.as_ref().map_or(0, |(_, image)| image.len());
-        for length in 0..=needed + 8 {
-            compare(&format!("file {place}"), &file, &outcome, length);
+        for call in Call::ALL {
+            let needed = call.written(&outcome).map_or(0, <[u8]>::len);
+            for length in 0..=needed + 8 {
+                compare(call, &format!("file {place}"), &file, &outcome, length);
+            }
         }
     }
 }
 
 #[test]
-fn without_room_for_the_words_nothing_is_judged() {
+fn the_longest_replays() {
+    for seed in 0..20 {
+        let file = encode(&largest_serial(&mut Random::seeded(seed)).trace);
+        let (name, outcome) = (format!("largest {seed}"), outcome(&file));
+        read_back(&name, &file, &outcome);
+        compare_all(Call::Replay, &name, &file, &outcome);
+        let written = Call::Replay.written(&outcome).expect("SER accepts");
+        assert_eq!(written.len(), LONGEST_REPLAY, "{name}");
+    }
+}
+
+#[test]
+fn without_room_for_the_words_nothing_is_done() {
     for (name, example) in files() {
-        for room in 0..JUDGE_WORDS {
-            let mut image = pattern(LONG);
-            let mut words = vec![7; room];
-            assert_eq!(judge_words(&example.bytes, &mut image, &mut words), NO_ROOM);
-            assert!(words.iter().all(|&word| word == 7), "{name}");
-            assert!(untouched(&image, 0), "{name}");
+        for call in Call::ALL {
+            let (in_words, needed) = in_words(call);
+            for room in 0..needed {
+                let mut buffer = pattern(call.long());
+                let mut words = vec![7; room];
+                let code = in_words(&example.bytes, &mut buffer, &mut words);
+                assert_eq!(code, NO_ROOM, "{name}");
+                assert!(words.iter().all(|&word| word == 7), "{name}");
+                assert!(untouched(&buffer, 0), "{name}");
+            }
         }
     }
 }

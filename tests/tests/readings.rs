@@ -4,7 +4,7 @@
 use model::buffer::LONG;
 use model::by_hand::{commit, read, shift, write};
 use model::trace::{encode, with_true_length, Record, Trace};
-use model::{judge, judge_with_room, Answer, Report};
+use model::{judge, judge_with_room, replay, Answer, Refusal, Replay, Report};
 
 fn file(keys: usize, clients: usize, records: &[Record]) -> Vec<u8> {
     encode(&Trace {
@@ -197,4 +197,50 @@ fn a_commit_without_operations_is_judged_from_its_view() {
     let text = model::report(&Answer::Judged(report));
     assert!(text.ends_with("SER refused record 2 clause 8 key 0 version 1\n"));
     assert_eq!(text.matches(" accepted").count(), 9);
+}
+
+/// Every commit has a shift before it, one without operations and one of a
+/// client that sees everything already too; no other shift is left.
+#[test]
+fn a_replay_has_one_shift_for_each_commit() {
+    let one = commit(0, 0, &[write(0, 1)], &[&[0, 1]]);
+    let empty = commit(0, 1, &[], &[&[0, 1]]);
+    let trace = [
+        shift(1, &[&[0]]),
+        one.clone(),
+        empty.clone(),
+        shift(1, &[&[0, 1]]),
+    ];
+    let replayed = [shift(0, &[&[0]]), one, shift(0, &[&[0, 1]]), empty];
+    let due = file(1, 2, &replayed);
+    let mut buffer = vec![0; due.len()];
+    let answer = replay(&file(1, 2, &trace), &mut buffer);
+    assert_eq!(answer, Replay::Written(due.len()));
+    assert_eq!(buffer, due);
+}
+
+/// A trace's own code comes before 16, also where SER fails at an earlier
+/// record; 16 comes before 17.
+#[test]
+fn sixteen_after_the_trace_and_before_the_buffer() {
+    let mut records = vec![
+        commit(0, 0, &[write(0, 1)], &[&[0, 1]]),
+        commit(1, 0, &[], &[&[0]]),
+    ];
+    let no_replay = |records: &[Record]| match replay(&file(1, 2, records), &mut []) {
+        Replay::Refused(refusal) => refusal,
+        Replay::Written(length) => panic!("{length} bytes"),
+    };
+    let ser = Refusal {
+        code: 16,
+        record: 2,
+        key: 0,
+        version: 1,
+    };
+    assert_eq!(no_replay(&records[..1]), Refusal::at(17, 0));
+    assert_eq!(no_replay(&records), ser);
+    records.push(commit(1, 0, &[write(0, 1)], &[&[0]]));
+    assert_eq!(no_replay(&records), ser);
+    records.push(commit(1, 0, &[read(0, 0)], &[&[0]]));
+    assert_eq!(no_replay(&records), Refusal::at(9, 4));
 }

@@ -1,20 +1,46 @@
-//! Do the generated traces tell a wrong reading of the clauses from the right
-//! one? Each slip here is a clause read wrongly; some taken trace must get
-//! other verdicts by it.
+//! Do the generated traces tell a wrong reading of the clauses, or of the
+//! replay, from the right one? Each slip here is one of them read wrongly; some
+//! taken trace must get other verdicts by it, or another answer.
 
+use model::buffer::{pattern, LONG_FILE};
 use model::facts::taken;
 use model::generate::taken_case;
-use model::levels::{least_missing, missing, missing_before, verdicts_by, Clauses};
+use model::levels::{
+    least_missing, missing, missing_before, place_of, verdicts, verdicts_by, Clauses,
+};
 use model::random::Random;
 use model::relations::{
     compose, dependencies, one_or_more, prefix_paths, prefix_steps, rw, snapshot_paths,
     snapshot_steps, so, then_maybe, union, wr, ww, Relation,
 };
+use model::replay::{replay_file, replay_of, write};
 use model::run::{Run, Step};
-use model::store::{writers_in, Key, Store, Version};
-use model::trace::OperationKind;
+use model::store::{opening_view, writers_in, Key, Store, Version, View};
+use model::trace::{encode, OperationKind, Record, Trace};
+use model::{Refusal, Verdict};
 
 const TRACES: u64 = 4_000;
+
+/// The first taken traces that are not long, with their runs.
+fn traces(number: u64) -> Vec<(Trace, Run)> {
+    (0..number)
+        .map(|seed| taken(&taken_case(&mut Random::seeded(seed)).bytes).expect("taken"))
+        .filter(|(_, run)| run.steps.len() <= 16)
+        .collect()
+}
+
+/// Prints in how many traces each slip is noticed; fails if one is in none.
+fn all_noticed(slips: &[(&str, usize)]) {
+    for (name, noticed) in slips {
+        println!("{name}: noticed in {noticed}");
+    }
+    let unnoticed: Vec<&str> = slips
+        .iter()
+        .filter(|slip| slip.1 == 0)
+        .map(|slip| slip.0)
+        .collect();
+    assert!(unnoticed.is_empty(), "{unnoticed:?}");
+}
 
 type Missing = Option<(Key, Version)>;
 
@@ -47,29 +73,17 @@ fn slips_are_noticed() {
             empty_commits_pass,
         ),
     ];
-    let runs: Vec<Run> = (0..TRACES)
-        .map(|seed| {
-            taken(&taken_case(&mut Random::seeded(seed)).bytes)
-                .expect("taken")
-                .1
-        })
-        .filter(|run| run.steps.len() <= 16)
-        .collect();
-    let right: Vec<_> = runs.iter().map(|run| verdicts_by(run, missing)).collect();
+    let runs: Vec<Run> = traces(TRACES).into_iter().map(|(_, run)| run).collect();
+    let right: Vec<_> = runs.iter().map(verdicts).collect();
     println!("{} traces", runs.len());
-    let mut unnoticed = Vec::new();
-    for (name, slip) in slips {
-        let noticed = runs
+    let noticed = slips.map(|(name, slip)| {
+        let other = runs
             .iter()
             .zip(&right)
-            .filter(|(run, right)| verdicts_by(run, slip) != **right)
-            .count();
-        println!("{name}: noticed in {noticed}");
-        if noticed == 0 {
-            unnoticed.push(name);
-        }
-    }
-    assert!(unnoticed.is_empty(), "{unnoticed:?}");
+            .filter(|(run, right)| verdicts_by(run, slip) != **right);
+        (name, other.count())
+    });
+    all_noticed(&noticed);
 }
 
 /// Clauses 6 and 7 with other paths, the rest as it is.
@@ -229,4 +243,134 @@ fn empty_commits_pass(clause: u8, step: &Step) -> Missing {
         return None;
     }
     missing(clause, step)
+}
+
+/// A taken trace, its run, and what SER says of it.
+struct Given {
+    trace: Trace,
+    run: Run,
+    ser: Verdict,
+}
+
+/// The replay of a trace as a file or a refusal; only one of the slips looks
+/// at the length of the buffer.
+type Replaying = fn(&Given, usize) -> Result<Vec<u8>, Refusal>;
+
+#[test]
+fn slips_of_the_replay_are_noticed() {
+    let slips: [(&str, Replaying); 7] = [
+        ("old shifts kept", old_shifts_kept),
+        ("no shift of a client that sees all", no_needless_shift),
+        ("the shift to the store after the commit", shift_to_after),
+        ("the view after without the own versions", without_own),
+        ("17 before 16", short_before_refused),
+        ("record 0 with 16", record_0),
+        ("key and version 0 with 16", record_only),
+    ];
+    let given: Vec<Given> = traces(TRACES / 4)
+        .into_iter()
+        .map(|(trace, run)| Given {
+            ser: verdicts(&run)[place_of("SER")],
+            trace,
+            run,
+        })
+        .collect();
+    println!("{} traces", given.len());
+    let noticed = slips.map(|(name, slip)| {
+        let other = given.iter().filter(|given| {
+            [0, LONG_FILE].into_iter().any(|length| {
+                let answered = |replaying: Replaying| {
+                    let mut buffer = pattern(length);
+                    (write(&replaying(given, length), &mut buffer), buffer)
+                };
+                answered(slip) != answered(right)
+            })
+        });
+        (name, other.count())
+    });
+    all_noticed(&noticed);
+}
+
+fn right(given: &Given, _: usize) -> Result<Vec<u8>, Refusal> {
+    replay_file(&given.trace, &given.run, &given.ser)
+}
+
+/// Other records where there is a replay.
+fn with_records(given: &Given, records: Vec<Record>) -> Result<Vec<u8>, Refusal> {
+    let wrong = Trace {
+        records,
+        ..given.trace
+    };
+    right(given, 0).map(|_| encode(&wrong))
+}
+
+fn records(given: &Given) -> Vec<Record> {
+    replay_of(&given.trace, &given.run).records
+}
+
+fn old_shifts_kept(given: &Given, _: usize) -> Result<Vec<u8>, Refusal> {
+    let mut replayed = records(given).into_iter();
+    let mut kept = Vec::new();
+    for record in &given.trace.records {
+        match record {
+            Record::Shift { .. } => kept.push(record.clone()),
+            Record::Commit { .. } => kept.extend(replayed.by_ref().take(2)),
+        }
+    }
+    with_records(given, kept)
+}
+
+fn no_needless_shift(given: &Given, _: usize) -> Result<Vec<u8>, Refusal> {
+    let mut views = vec![opening_view(given.trace.keys); given.trace.clients];
+    let mut records = records(given);
+    records.retain(|record| match record {
+        Record::Shift { client, view } => views[*client] != *view,
+        Record::Commit { client, after, .. } => {
+            views[*client] = after.clone();
+            true
+        }
+    });
+    with_records(given, records)
+}
+
+/// Other views in the shift and in the commit.
+fn with_views(given: &Given, views: fn(&Step) -> [View; 2]) -> Result<Vec<u8>, Refusal> {
+    let mut records = records(given);
+    for (pair, step) in records.chunks_mut(2).zip(&given.run.steps) {
+        for (record, other) in pair.iter_mut().zip(views(step)) {
+            match record {
+                Record::Shift { view, .. } => *view = other,
+                Record::Commit { after, .. } => *after = other,
+            }
+        }
+    }
+    with_records(given, records)
+}
+
+fn shift_to_after(given: &Given, _: usize) -> Result<Vec<u8>, Refusal> {
+    with_views(given, |step| {
+        [step.store_after.versions(), step.store_after.versions()]
+    })
+}
+
+fn without_own(given: &Given, _: usize) -> Result<Vec<u8>, Refusal> {
+    with_views(given, |step| [step.store.versions(), step.store.versions()])
+}
+
+fn short_before_refused(given: &Given, length: usize) -> Result<Vec<u8>, Refusal> {
+    if length < encode(&replay_of(&given.trace, &given.run)).len() {
+        return Err(Refusal::at(17, 0));
+    }
+    right(given, length)
+}
+
+fn record_0(given: &Given, length: usize) -> Result<Vec<u8>, Refusal> {
+    right(given, length).map_err(|refusal| Refusal {
+        record: 0,
+        ..refusal
+    })
+}
+
+fn record_only(given: &Given, length: usize) -> Result<Vec<u8>, Refusal> {
+    right(given, length).map_err(|refusal| Refusal::at(refusal.code, refusal.record))
 }

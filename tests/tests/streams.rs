@@ -1,26 +1,39 @@
-//! The program `judge` where its input or its output fails, is late or is cut:
-//! a failure gets a line on standard error and no report.
+//! The programs where their input or their output fails, is late or is cut: a
+//! failure gets a line on standard error, and nothing is written.
 
-use model::example_traces::trace_b;
-use model::files::{at, program, report_of};
+use model::example_traces::trace_e;
+use model::files::at;
+use model::programs::{due, program, said, Said};
 use model::trace::encode;
+use model::{outcome, Call};
 use std::fs::{self, File, OpenOptions};
 use std::io::Write;
 use std::os::fd::OwnedFd;
 use std::os::unix::net::UnixStream;
 use std::path::PathBuf;
-use std::process::{Child, Command, Output, Stdio};
+use std::process::{Child, Command, Stdio};
 use std::thread::sleep;
 use std::time::Duration;
 
-/// The report that a whole input gets.
-fn due() -> String {
-    report_of(&encode(&trace_b()))
+/// What is due for a whole input: the lost view, which SER accepts, so that
+/// each program has something to write.
+fn whole(call: Call) -> Said {
+    due(call, &outcome(&encode(&trace_e())))
+}
+
+/// The same as a file.
+fn lost_view() -> File {
+    File::open(at("examples/E-lost-view")).expect("an example trace")
+}
+
+/// A line on standard error, and nothing on standard output.
+fn told(line: &str) -> Said {
+    (Vec::new(), format!("{line}\n"))
 }
 
 /// The program, started with these streams.
-fn start(input: impl Into<Stdio>, output: impl Into<Stdio>) -> Child {
-    Command::new(program())
+fn start(call: Call, input: impl Into<Stdio>, output: impl Into<Stdio>) -> Child {
+    Command::new(program(call))
         .stdin(input)
         .stdout(output)
         .stderr(Stdio::piped())
@@ -28,85 +41,106 @@ fn start(input: impl Into<Stdio>, output: impl Into<Stdio>) -> Child {
         .expect("the program starts")
 }
 
-/// What it has written and told when it has ended.
-fn ended(child: Child) -> (String, String) {
+/// What it has said when it has ended.
+fn ended(child: Child) -> Said {
     said(child.wait_with_output().expect("the program ends"))
 }
 
-fn said(output: Output) -> (String, String) {
-    assert!(output.status.success(), "{:?}", output.status);
-    let text = |bytes| String::from_utf8(bytes).expect("text");
-    (text(output.stdout), text(output.stderr))
-}
-
-/// A shell runs the program with its streams redirected: `line` says how.
-fn redirected(line: &str) -> (String, String) {
+/// A shell runs the program on the lost view, with its streams redirected:
+/// `line` says how.
+fn redirected(call: Call, line: &str) -> Said {
     let output = Command::new("sh")
         .arg("-c")
         .arg(format!("exec \"$0\" {line}"))
-        .arg(program())
-        .stdin(Stdio::null())
+        .arg(program(call))
+        .current_dir(at("examples"))
+        .stdin(lost_view())
         .output()
         .expect("there is a shell");
     said(output)
 }
 
-/// The lost update as a file.
-fn lost_update() -> File {
-    File::open(at("examples/B-lost-update")).expect("an example trace")
+#[test]
+fn a_whole_input() {
+    for call in Call::ALL {
+        assert_eq!(redirected(call, ""), whole(call));
+    }
 }
 
 #[test]
 fn closed_input() {
-    let told = "standard input: Bad file descriptor\n";
-    assert_eq!(redirected("<&-"), (String::new(), told.to_string()));
+    for call in Call::ALL {
+        let due = told("standard input: Bad file descriptor");
+        assert_eq!(redirected(call, "<&-"), due);
+    }
 }
 
 #[test]
 fn a_directory_as_input() {
-    let told = "standard input: Is a directory\n";
-    assert_eq!(redirected("< /"), (String::new(), told.to_string()));
+    for call in Call::ALL {
+        let due = told("standard input: Is a directory");
+        assert_eq!(redirected(call, "< /"), due);
+    }
 }
 
 /// Nothing at all is an input, and no failure.
 #[test]
 fn an_empty_input() {
-    let due = "refused 1 record 0 key 0 version 0\n";
-    assert_eq!(redirected(""), (due.to_string(), String::new()));
+    let line = "refused 1 record 0 key 0 version 0";
+    let printed = (format!("{line}\n").into_bytes(), String::new());
+    assert_eq!(redirected(Call::Judge, "< /dev/null"), printed);
+    assert_eq!(redirected(Call::Replay, "< /dev/null"), told(line));
+}
+
+/// A refusal of `replay` goes to standard error whatever standard output is,
+/// and nowhere else if it cannot be told there.
+#[test]
+fn a_refusal_beside_closed_streams() {
+    let line = "refused 16 record 2 key 0 version 1";
+    let nothing = (Vec::new(), String::new());
+    for (streams, due) in [("", told(line)), (">&-", told(line)), ("2>&-", nothing)] {
+        let line = format!("< B-lost-update {streams}");
+        assert_eq!(redirected(Call::Replay, &line), due, "{line}");
+    }
 }
 
 #[test]
 fn a_full_device() {
-    let full = OpenOptions::new()
-        .write(true)
-        .open("/dev/full")
-        .expect("a device that is full");
-    let (_, told) = ended(start(lost_update(), full));
-    assert_eq!(told, "standard output: No space left on device\n");
+    for call in Call::ALL {
+        let full = OpenOptions::new()
+            .write(true)
+            .open("/dev/full")
+            .expect("a device that is full");
+        let due = told("standard output: No space left on device");
+        assert_eq!(ended(start(call, lost_view(), full)), due);
+    }
 }
 
 #[test]
 fn closed_output() {
-    let (_, told) = redirected(">&-");
-    assert_eq!(told, "standard output: Bad file descriptor\n");
+    for call in Call::ALL {
+        let due = told("standard output: Bad file descriptor");
+        assert_eq!(redirected(call, ">&-"), due);
+    }
 }
 
 /// A file that may have no byte: the signal of that is ignored, so that the
 /// program can tell.
 #[test]
 fn a_cut_output() {
-    let cut = PathBuf::from(env!("CARGO_TARGET_TMPDIR")).join("cut");
-    let output = Command::new("sh")
-        .arg("-c")
-        .arg("trap '' XFSZ; ulimit -f 0; exec \"$0\" > \"$1\"")
-        .arg(program())
-        .arg(&cut)
-        .stdin(lost_update())
-        .output()
-        .expect("there is a shell");
-    let told = "standard output: File too large\n";
-    assert_eq!(said(output), (String::new(), told.to_string()));
-    assert_eq!(fs::read(&cut).expect("the output"), b"");
+    for call in Call::ALL {
+        let cut = PathBuf::from(env!("CARGO_TARGET_TMPDIR")).join("cut");
+        let output = Command::new("sh")
+            .arg("-c")
+            .arg("trap '' XFSZ; ulimit -f 0; exec \"$0\" > \"$1\"")
+            .arg(program(call))
+            .arg(&cut)
+            .stdin(lost_view())
+            .output()
+            .expect("there is a shell");
+        assert_eq!(said(output), told("standard output: File too large"));
+        assert_eq!(fs::read(&cut).expect("the output"), b"");
+    }
 }
 
 /// A write that takes no byte and does not fail has no reason of the system's,
@@ -120,18 +154,19 @@ fn an_output_that_takes_nothing() {
         .arg(at("tests/tests/streams/takes_nothing.c"))
         .status();
     assert!(compiler.expect("there is gcc").success());
-    let output = Command::new(program())
-        .env("LD_PRELOAD", &write)
-        .stdin(lost_update())
-        .output()
-        .expect("the program starts");
-    let told = "standard output: no byte was taken\n";
-    assert_eq!(said(output), (String::new(), told.to_string()));
+    for call in Call::ALL {
+        let output = Command::new(program(call))
+            .env("LD_PRELOAD", &write)
+            .stdin(lost_view())
+            .output()
+            .expect("the program starts");
+        assert_eq!(said(output), told("standard output: no byte was taken"));
+    }
 }
 
-/// The pieces of the lost update, with pauses.
+/// The pieces of the lost view, with pauses.
 fn late(mut to: impl Write) {
-    for piece in encode(&trace_b()).chunks(30) {
+    for piece in encode(&trace_e()).chunks(30) {
         sleep(Duration::from_millis(100));
         to.write_all(piece).expect("the input is written");
     }
@@ -139,20 +174,24 @@ fn late(mut to: impl Write) {
 
 #[test]
 fn a_late_writer() {
-    let mut child = start(Stdio::piped(), Stdio::piped());
-    late(child.stdin.take().expect("it is piped"));
-    assert_eq!(ended(child), (due(), String::new()));
+    for call in Call::ALL {
+        let mut child = start(call, Stdio::piped(), Stdio::piped());
+        late(child.stdin.take().expect("it is piped"));
+        assert_eq!(ended(child), whole(call));
+    }
 }
 
 /// An input that does not wait: a read finds nothing ready and fails, until
 /// there is something.
 #[test]
 fn an_input_that_is_not_ready() {
-    let (ours, theirs) = UnixStream::pair().expect("two ends");
-    theirs
-        .set_nonblocking(true)
-        .expect("an end that does not wait");
-    let child = start(OwnedFd::from(theirs), Stdio::piped());
-    late(ours);
-    assert_eq!(ended(child), (due(), String::new()));
+    for call in Call::ALL {
+        let (ours, theirs) = UnixStream::pair().expect("two ends");
+        theirs
+            .set_nonblocking(true)
+            .expect("an end that does not wait");
+        let child = start(call, OwnedFd::from(theirs), Stdio::piped());
+        late(ours);
+        assert_eq!(ended(child), whole(call));
+    }
 }

@@ -6,17 +6,20 @@
 //! and allocates nothing, so that several threads may call at once. It takes no
 //! more stack than its constant says; the buffers are the caller's.
 //!
-//! [`Refusal`] has the table of codes, [`Verdicts`] that of levels and
-//! [`Verdict`] that of clauses. `docs/FORMAT.md` has the trace file, the image
-//! and the report, and the long form of the tables.
+//! [`Refusal`] has the table of codes and that of the calls which give them,
+//! [`Verdicts`] that of levels and [`Verdict`] that of clauses.
+//! `docs/FORMAT.md` has the trace file, the image, the replay and the report,
+//! and the long form of the tables.
 
 mod archive;
 mod judging;
 mod refusal;
+mod replaying;
 mod report;
 
 pub use judging::{judge, judge_words, Answer, Verdict, Verdicts, JUDGE_STACK, JUDGE_WORDS};
 pub use refusal::{Key, Refusal, VersionNumber, NO_ROOM, REFUSAL_WORDS};
+pub use replaying::{replay, replay_words, Replay, LONGEST_REPLAY, REPLAY_STACK, REPLAY_WORDS};
 pub use report::{report, LONGEST_REPORT, REPORT_STACK};
 
 /// The most bytes that a trace file may have; a longer one is code 1.

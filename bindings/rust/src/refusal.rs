@@ -29,6 +29,15 @@ pub struct VersionNumber(pub usize);
 /// | 13 | a read's value is not that of the newest version in the view | record, least key, the version read |
 /// | 14 | a view changed at a key without an operation | record, least key |
 /// | 15 | the image buffer is shorter than the image | |
+/// | 16 | SER does not accept the trace, so that it has no replay | record, key and version of SER's verdict |
+/// | 17 | the file buffer is shorter than the file that is to be written | |
+///
+/// A call gives these and no others:
+///
+/// | call | codes |
+/// |---|---|
+/// | [`judge`](crate::judge) | 1 to 14, then 15 |
+/// | [`replay`](crate::replay) | 1 to 14, then 16, then 17 |
 ///
 /// Of several that are due the first is answered, in the order that
 /// `docs/FORMAT.md` gives; there it also stands what to do about each.

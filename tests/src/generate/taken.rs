@@ -420,7 +420,21 @@ fn accesses_along(
 
 /// 63 commits of 32 operations by 16 clients on 16 keys, and their shifts.
 pub fn largest(random: &mut Random) -> Built {
+    let style = largest_style(random);
+    build(random, &style)
+}
+
+/// The same where each commit is made from a full view: SER accepts.
+pub fn largest_serial(random: &mut Random) -> Built {
     let style = Style {
+        seeing: Seeing::Everything,
+        ..largest_style(random)
+    };
+    build(random, &style)
+}
+
+fn largest_style(random: &mut Random) -> Style {
+    Style {
         keys: Store::MAX_KEYS,
         clients: Store::MAX_CLIENTS,
         commits: Store::MAX_COMMITS,
@@ -448,8 +462,7 @@ pub fn largest(random: &mut Random) -> Built {
         written: 100,
         also_read: 100,
         idle: 0,
-    };
-    build(random, &style)
+    }
 }
 
 /// A trace whose file has exactly 65,536 bytes: 63 commits with 1,995

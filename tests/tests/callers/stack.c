@@ -1,8 +1,8 @@
 /* How many bytes of stack a call takes; the first word says which call. Each time it is made on a thread of its own, whose stack has a pattern in
  * it beforehand: what it took reaches from where the thread makes the call down to the lowest word that is another one afterwards.
  *
- * Standard input has trace files, each with its length before it (8 bytes, the lowest first). Each is given to the call without an image
- * buffer and with one that is long enough. Prints the most that was taken. */
+ * Standard input has trace files, each with its length before it (8 bytes, the lowest first). Each is given to the call without a buffer and
+ * with one that is long enough. Prints the most that was taken. */
 #define _XOPEN_SOURCE 600
 #include "consistency.h"
 #include <pthread.h>
@@ -14,27 +14,34 @@
 #define PATTERN UINT64_C(0x5aa5c33c96690ff0)
 
 static _Alignas(4096) volatile uint64_t stack[STACK_WORDS];
-static uint8_t file[CONSISTENCY_LONGEST_FILE + 1024], image[CONSISTENCY_LONGEST_IMAGE], text[CONSISTENCY_LONGEST_REPORT];
+static uint8_t file[CONSISTENCY_LONGEST_FILE + 1024], buffer[CONSISTENCY_LONGEST_IMAGE + CONSISTENCY_LONGEST_REPLAY];
+static uint8_t text[CONSISTENCY_LONGEST_REPORT];
 static uint64_t words[CONSISTENCY_JUDGE_WORDS];
-static size_t file_length, image_length;
+static size_t file_length, buffer_length;
 static const char *start;
 
 static void *judge(void *nothing) {
     start = __builtin_frame_address(0);
-    judge_file(file, file_length, image, image_length, words, CONSISTENCY_JUDGE_WORDS);
+    judge_file(file, file_length, buffer, buffer_length, words, CONSISTENCY_JUDGE_WORDS);
+    return nothing;
+}
+
+static void *replay(void *nothing) {
+    start = __builtin_frame_address(0);
+    replay_file(file, file_length, buffer, buffer_length, words, CONSISTENCY_REPLAY_WORDS);
     return nothing;
 }
 
 static void *report(void *nothing) {
     start = __builtin_frame_address(0);
-    report_file(file, file_length, image, image_length, text, sizeof text);
+    report_file(file, file_length, buffer, buffer_length, text, sizeof text);
     return nothing;
 }
 
 static const struct {
     const char *name;
     void *(*make)(void *);
-} calls[] = {{"judge_file", judge}, {"report_file", report}};
+} calls[] = {{"judge_file", judge}, {"replay_file", replay}, {"report_file", report}};
 
 static void must(int holds, const char *what) {
     if (holds) return;
@@ -66,7 +73,7 @@ int main(int count, char **names) {
         for (file_length = 0, i = sizeof length; i > 0; i--) file_length = file_length << 8 | length[i - 1];
         must(file_length <= sizeof file && fread(file, 1, file_length, stdin) == file_length, "not a file");
         for (i = 0; i < 2; i++) {
-            image_length = i * sizeof image;
+            buffer_length = i * sizeof buffer;
             size_t taken = taken_by(calls[call].make);
             if (taken > most) most = taken;
         }

@@ -1,0 +1,70 @@
+//! The calls side by side. Each is lent a trace file and one buffer, and either
+//! refuses or writes something to the start of the buffer.
+
+use crate::buffer::{LONG, LONG_FILE};
+use crate::words::{judge_words, replay_words};
+use crate::{answer, image, replay, replayed, Outcome};
+
+#[derive(Clone, Copy, PartialEq, Eq, PartialOrd, Ord, Debug)]
+pub enum Call {
+    /// Ten verdicts, and the image.
+    Judge,
+    /// The replay.
+    Replay,
+}
+
+impl Call {
+    pub const ALL: [Call; 2] = [Call::Judge, Call::Replay];
+
+    pub fn name(self) -> &'static str {
+        match self {
+            Call::Judge => "judge",
+            Call::Replay => "replay",
+        }
+    }
+
+    /// The codes that it has for taken traces, in the order of its tests; those
+    /// before them, 1 to 14, it has in common with the others. The last is the
+    /// one of a buffer that is too short.
+    pub fn own_codes(self) -> &'static [u8] {
+        match self {
+            Call::Judge => &[15],
+            Call::Replay => &[16, 17],
+        }
+    }
+
+    /// No buffer need be longer.
+    pub fn longest(self) -> usize {
+        match self {
+            Call::Judge => image::LONGEST,
+            Call::Replay => replay::LONGEST,
+        }
+    }
+
+    /// More than any file needs.
+    pub fn long(self) -> usize {
+        match self {
+            Call::Judge => LONG,
+            Call::Replay => LONG_FILE,
+        }
+    }
+
+    /// What it writes of a file; nothing if it refuses the file whatever the
+    /// buffer is.
+    pub fn written(self, outcome: &Outcome) -> Option<&[u8]> {
+        let taken = outcome.as_ref().ok()?;
+        match self {
+            Call::Judge => Some(&taken.image),
+            Call::Replay => taken.replay.as_deref().ok(),
+        }
+    }
+
+    /// The words of its answer for a file that comes to this, the buffer left
+    /// as the call leaves it.
+    pub fn words(self, outcome: &Outcome, buffer: &mut [u8]) -> Vec<u64> {
+        match self {
+            Call::Judge => judge_words(&answer(outcome, buffer)),
+            Call::Replay => replay_words(&replayed(outcome, buffer)),
+        }
+    }
+}

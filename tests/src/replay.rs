@@ -1,0 +1,78 @@
+//! Request E1, "Write out the full-view trace": the replay of section "The
+//! words of demand 3" as a file, and what the call that writes it answers.
+
+use crate::run::Run;
+use crate::trace::{encode, Record, Trace};
+use crate::{put, Refusal, Verdict};
+
+/// No replay is longer: 63 commits of 32 operations on 16 keys.
+pub const LONGEST: usize = 33_276;
+
+/// What a trace file is answered with where its replay is asked for.
+#[derive(Clone, Copy, PartialEq, Eq, Debug)]
+pub enum Replay {
+    Refused(Refusal),
+    /// The length of the file that stands at the start of the buffer.
+    Written(usize),
+}
+
+impl Replay {
+    /// The code; 0 where the replay was written.
+    pub fn code(&self) -> u8 {
+        match self {
+            Replay::Refused(refusal) => refusal.code,
+            Replay::Written(_) => 0,
+        }
+    }
+}
+
+/// The replay of a taken trace as a file, if SER accepts the trace; "code 16
+/// with SER's failing record, key and version" if not.
+pub fn replay_file(trace: &Trace, run: &Run, ser: &Verdict) -> Result<Vec<u8>, Refusal> {
+    match *ser {
+        Verdict::Accepted => Ok(encode(&replay_of(trace, run))),
+        Verdict::Refused {
+            record,
+            key,
+            version,
+            ..
+        } => Err(Refusal {
+            code: 16,
+            record,
+            key,
+            version,
+        }),
+    }
+}
+
+/// What a lent file buffer gets; 17 is "checked after 16".
+pub fn write(replay: &Result<Vec<u8>, Refusal>, buffer: &mut [u8]) -> Replay {
+    match replay {
+        Err(refusal) => Replay::Refused(*refusal),
+        Ok(file) if !put(file, buffer) => Replay::Refused(Refusal::at(17, 0)),
+        Ok(file) => Replay::Written(file.len()),
+    }
+}
+
+/// The same commits in the same order, each after a shift of its client to a
+/// full view of the store it is made on, and left with a full view.
+pub fn replay_of(trace: &Trace, run: &Run) -> Trace {
+    let mut records = Vec::new();
+    for step in &run.steps {
+        records.push(Record::Shift {
+            client: step.author.client,
+            view: step.store.versions(),
+        });
+        records.push(Record::Commit {
+            client: step.author.client,
+            session: step.author.session,
+            operations: step.operations.clone(),
+            after: step.store_after.versions(),
+        });
+    }
+    Trace {
+        keys: trace.keys,
+        clients: trace.clients,
+        records,
+    }
+}
