@@ -1,15 +1,15 @@
 -- A turn of the loop that grows the masks of a full view. Assumes nothing.
-use Prim.Native.Nat.{ℕ, _+_, _*_, _≤_, _<_}
+use Prim.Native.Nat.{ℕ, zero, suc, _+_, _*_, _≤_, _<_}
 use mathlib.Core.Path.{_≡_, refl, sym, ap, _∙_}
-use mathlib.Core.Bool.{true, false}
 use mathlib.Core.Logic.{_≢_}
 use mathlib.Core.List.{List}
 use native.Mathlib.Omega.{arith}
 use native.Mathlib.Decide.{ℕ-discrete}
+use lib.Dec.{eqb}
 use lib.ListN.{length, getD, set}
 use lib.Seq.{getD-set-same, getD-set-other}
 use Rattle.search.specs.Choose.{choose}
-use Rattle.sets.specs.Set.{Set, has}
+use Rattle.sets.specs.Set.{Set}
 use Rattle.replaying.specs.Full.{grownMask}
 
 -- the keys below k have their mask after, the others still that before
@@ -31,12 +31,20 @@ module _ {start : List ℕ} {ranks : Set} {k : ℕ} {masks : List ℕ} (g : Grow
       at-key j l (yes e) = rw e (here ∙ ap (grownMask ranks k) (g .others k (omega arith)))
       at-key j l (no n) = elsewhere j n ∙ g .passed j (omega arith)
 
-  -- the key was written
-  pub grown-more : has ranks (2 * k + 1) ≡ true → k < length masks → Grown start ranks (k + 1) (set masks k (2 * getD masks k 0 + 1))
-  unfolding choose
-  grown-more t l = one-more (getD-set-same masks k _ 0 l ∙ rw t refl) (λ j n. getD-set-other masks k j _ 0 n)
+  -- the next key has its mask after
+  pub grown-more : {more : ℕ} → k < length masks → more ≡ grownMask ranks k (getD masks k 0) → Grown start ranks (k + 1) (set masks k more)
+  grown-more l e = one-more (getD-set-same masks k _ 0 l ∙ e) (λ j n. getD-set-other masks k j _ 0 n)
 
-  -- it was not
-  pub grown-same : has ranks (2 * k + 1) ≡ false → Grown start ranks (k + 1) masks
-  unfolding choose
-  grown-same t = one-more (rw t refl) (λ j n. refl)
+-- ---- one mask
+
+-- a number below two times another, and that one more
+pub product : (w m : ℕ) → w < 2 → w * (m + 1) ≤ m + 1
+product zero m l = omega arith
+product (suc zero) m l = omega arith
+product (suc (suc w)) m l = absurd (omega arith)
+
+pub next-mask : (w m : ℕ) → w < 2 → m + w * (m + 1) ≡ choose (eqb w 1) (2 * m + 1) m
+unfolding choose
+next-mask zero m l = omega arith
+next-mask (suc zero) m l = omega arith
+next-mask (suc (suc w)) m l = absurd (omega arith)

@@ -1,19 +1,15 @@
 -- `replaying::view::grow` meets its contract. The loop's invariant: the keys passed have their mask after, the others still that before. Assumes nothing.
-use Prim.Native.Nat.{ℕ, _+_, _*_, _-_, _^_, _≤_, _<_}
-use mathlib.Core.Logic.{⊎-elim}
-use mathlib.Core.Path.{_≡_, refl, sym, ap, _∙_, subst}
+use Prim.Native.Nat.{_-_, _^_, _≤_, _<_}
+use mathlib.Core.Path.{_≡_, refl, sym, _∙_, subst}
 use native.Mathlib.Omega.{arith}
-use lib.ListN.{length, getD, set, length-set}
-use denote.Ref.{now}
-use Rattle.replaying.specs.Full.{grownMask}
-use Rattle.replaying.proofs.Grown.{Grown, none-grown, grown-more, grown-same}
+use lib.ListN.{length, length-set}
+use Rattle.replaying.proofs.Grown.{Grown, none-grown, grown-more}
 use borrow.Author.Needs.{needs}
 use Rattle.replaying.proofs.view.grow.Statement.{statement}
 use Rattle.replaying.proofs.view.grow.Tie as tie
 
 abbrev Inv-loop : tie.InvT-loop
-Inv-loop full₀ ranks n k₀ full k =
-    (k ≤ n) × (length full ≡ length full₀) × Grown full₀ ranks k full
+Inv-loop full₀ ranks n k₀ full k = (k ≤ n) × (length full ≡ length full₀) × Grown full₀ ranks k full
 
 abbrev μ-loop : tie.MeasureT-loop
 μ-loop full₀ ranks n k₀ full k = n - k
@@ -21,35 +17,29 @@ abbrev μ-loop : tie.MeasureT-loop
 loop-holds : tie.Need-loop-holds Inv-loop μ-loop
 loop-holds c = (omega arith, refl, none-grown _ _)
 
-mul-has : tie.Need-mul-has Inv-loop μ-loop
-mul-has c = search needs
+mul-with-next : tie.Need-mul-with-next Inv-loop μ-loop
+mul-with-next c = search needs
 
-add-has : tie.Need-add-has Inv-loop μ-loop
-add-has c = search needs
+slice-read-with-next : tie.Need-slice-read-with-next Inv-loop μ-loop
+slice-read-with-next c = search needs
 
-has-requires : tie.Need-has-requires Inv-loop μ-loop
-has-requires c κs = search needs
+mul-with-next-2 : tie.Need-mul-with-next-2 Inv-loop μ-loop
+mul-with-next-2 c = search needs
+
+add-with-next : tie.Need-add-with-next Inv-loop μ-loop
+add-with-next c = search needs
+
+shr-with-next : tie.Need-shr-with-next Inv-loop μ-loop
+shr-with-next c = search needs
+
+with-next-requires : tie.Need-with-next-requires Inv-loop μ-loop
+with-next-requires c κs =
+    let l = c .before .before .loop in
+    let begun = c .before .before .before .before in
+    (subst (λ m. m < 2 ^ 63) (sym (l .inv .2 .others (l .k) (omega arith))) (begun .pre .2 (l .k) (omega arith)), omega arith)
 
 mul-full : tie.Need-mul-full Inv-loop μ-loop
 mul-full c = search needs
-
-slice-read-full : tie.Need-slice-read-full Inv-loop μ-loop
-slice-read-full c = search needs
-
--- the key at hand still has its mask from before, which can be doubled
-small : (c : tie.In-loop Inv-loop μ-loop) → getD (c .before .loop .full) (c .before .loop .k) 0 < 2 ^ 63
-small c =
-    let l = c .before .loop in
-    subst (λ m. m < 2 ^ 63) (sym (l .inv .2 .others (l .k) (omega arith))) (c .before .before .before .pre .2 (l .k) (c .loop-test .taken))
-
-mul-full-2 : tie.Need-mul-full-2 Inv-loop μ-loop
-mul-full-2 c = omega (arith, small (c .before .before .before))
-
-add-full : tie.Need-add-full Inv-loop μ-loop
-add-full c = omega (arith, small (c .before .before .before))
-
-mul-full-3 : tie.Need-mul-full-3 Inv-loop μ-loop
-mul-full-3 c = search needs
 
 slice-write-full : tie.Need-slice-write-full Inv-loop μ-loop
 slice-write-full c = search needs
@@ -63,12 +53,8 @@ loop-less c = search needs
 loop-again : tie.Need-loop-again Inv-loop μ-loop
 loop-again c =
     let l = c .before .before .before .loop in
-    let found = c .before .has .ensures in
     let room = c .before .before .before .before .before .pre .1 in
-    ⊎-elim
-    (λ w. rw (w .2) (omega arith, length-set (l .full) (l .k) _ ∙ l .inv .1, grown-more (l .inv .2) (sym found ∙ w .0 .taken) (omega arith)))
-    (λ w. rw (w .1) (omega arith, l .inv .1, grown-same (l .inv .2) (sym found ∙ w .0 .left)))
-    (c .if1 .came)
+    (omega arith, length-set (l .full) (l .k) _ ∙ l .inv .1, grown-more (l .inv .2) (omega arith) (c .with-next .ensures))
 
 same-length : tie.Need-same-length Inv-loop μ-loop
 same-length c = search needs
@@ -83,14 +69,13 @@ grow-spec =
     Inv-loop
     μ-loop
     loop-holds
-    mul-has
-    add-has
-    has-requires
+    mul-with-next
+    slice-read-with-next
+    mul-with-next-2
+    add-with-next
+    shr-with-next
+    with-next-requires
     mul-full
-    slice-read-full
-    mul-full-2
-    add-full
-    mul-full-3
     slice-write-full
     add-k
     loop-less
