@@ -1,8 +1,8 @@
 //! Writes the example traces, and what the programs must print for them,
 //! to where the repository keeps them: `examples/` and `crates/`.
 
-use model::example_traces::trace_b;
-use model::files::{arguments, at, files, printed, report_of};
+use model::example_traces::{trace_b, trace_e};
+use model::files::{arguments, at, files, printed, replay_of, report_of};
 use model::trace::encode;
 use std::fs;
 
@@ -17,5 +17,8 @@ fn main() -> std::io::Result<()> {
     fs::write(at("crates/vectors/stdout"), printed())?;
     let b = encode(&trace_b());
     fs::write(at("crates/judge/stdin"), &b)?;
-    fs::write(at("crates/judge/stdout"), report_of(&b))
+    fs::write(at("crates/judge/stdout"), report_of(&b))?;
+    let e = encode(&trace_e());
+    fs::write(at("crates/replay/stdin"), &e)?;
+    fs::write(at("crates/replay/stdout"), replay_of(&e))
 }

@@ -3,7 +3,7 @@
 //! `vectors` must print for all of them.
 
 use crate::example_traces::{all, ExampleTrace};
-use crate::{judge_with_room, report};
+use crate::{judge_with_room, outcome, report, Call};
 use std::path::{Path, PathBuf};
 
 /// In the order of `example_traces::all`.
@@ -49,6 +49,13 @@ pub fn printed() -> String {
 /// Where a file of the repository stands.
 pub fn at(path: &str) -> PathBuf {
     Path::new(env!("CARGO_MANIFEST_DIR")).join("..").join(path)
+}
+
+/// The replay of one file that has one.
+pub fn replay_of(file: &[u8]) -> Vec<u8> {
+    let outcome = outcome(file);
+    let written = Call::Replay.written(&outcome);
+    written.expect("a trace that SER accepts").to_vec()
 }
 
 /// The report of one file, with an image buffer that is long enough.

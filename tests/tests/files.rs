@@ -2,7 +2,7 @@
 //! not, `cargo run --offline --example write_traces` writes them again.
 
 use model::example_traces::{trace_b, trace_e};
-use model::files::{arguments, at, files, printed, report_of};
+use model::files::{arguments, at, files, printed, replay_of, report_of};
 use model::trace::encode;
 use model::{outcome, Call};
 use std::collections::BTreeSet;
@@ -54,6 +54,9 @@ fn what_the_programs_read_and_print() {
     let b = encode(&trace_b());
     assert_eq!(kept("crates/judge/stdin"), b);
     assert_eq!(kept("crates/judge/stdout"), report_of(&b).as_bytes());
+    let e = encode(&trace_e());
+    assert_eq!(kept("crates/replay/stdin"), e);
+    assert_eq!(kept("crates/replay/stdout"), replay_of(&e));
     assert_eq!(kept("crates/vectors/args"), arguments().as_bytes());
     assert_eq!(kept("crates/vectors/stdout"), printed().as_bytes());
 }
