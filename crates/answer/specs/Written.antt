@@ -35,7 +35,7 @@ replayAnswer bytes room = answerIn 17 room (written bytes)
 abbrev pub replayAfter : List ℕ → List ℕ → List ℕ
 replayAfter bytes buffer = bufferAfter (written bytes) buffer
 
--- "It is at most 33,276 bytes."
+-- "the file from E1 65,532" (02, E2)
 abbrev pub ReplayFits : List ℕ → Type 0
 ReplayFits bytes = AtMost maxReplay replay bytes
 

@@ -1,9 +1,9 @@
--- "Sizes of a rack" (01): the limits of a store, named once. Assumes nothing.
+-- "Sizes of a rack" (01), with the keys of 02 (E2): the limits of a store, named once. Assumes nothing.
 use Prim.Native.Nat.{ℕ, _+_, _*_}
 
--- "Keys 1 to 16"
+-- "Keys go from 16 to 32"
 abbrev pub maxKeys : ℕ
-maxKeys = 16
+maxKeys = 32
 
 -- "clients 1 to 16"
 abbrev pub maxClients : ℕ
@@ -28,11 +28,11 @@ minBytes = 12
 abbrev pub maxBytes : ℕ
 maxBytes = 65536
 
--- the image, "At most 16,960 bytes": its first 8, 8 for each commit, and for each key 4 and 16 for each of its versions
+-- the image, "can reach 33,408 bytes" (02, E2): its first 8, 8 for each commit, and for each key 4 and 16 for each of its versions
 abbrev pub maxImage : ℕ
 maxImage = 8 + 8 * maxCommits + maxKeys * (4 + 16 * perKey)
 
--- the file of a replay, "at most 33,276 bytes" (02, E1): its first 12, and for each commit a shift (6, and 8 for each key) and a commit (10,
+-- the file of a replay, "65,532, still inside 65,536" (02, E2): its first 12, and for each commit a shift (6, and 8 for each key) and a commit (10,
 -- 8 for each of at most two operations a key, and 8 for each key)
 abbrev pub maxReplay : ℕ
 maxReplay = minBytes + maxCommits * (16 + 32 * maxKeys)

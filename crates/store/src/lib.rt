@@ -24,7 +24,7 @@ pub struct Store {
 }
 
 impl Store {
-    pub const KEYS: usize = 16;
+    pub const KEYS: usize = 32;
 
     pub const CLIENTS: usize = 16;
 

@@ -70,7 +70,7 @@ pub operationsFit-none : (s : List ℕ) (at keys low left : ℕ) → left ≡ 0 
 unfolding operationsFit
 operationsFit-none s at keys low left e = rw e
 
--- "Keys 1 to 16, clients 1 to 16"
+-- "Keys 1 to" 32, "clients 1 to 16"
 pub withinLimits-is : (h : Header)
     → T (withinLimits h) ↔ ((1 ≤ h .keys) × (h .keys ≤ maxKeys) × (1 ≤ h .clients) × (h .clients ≤ maxClients))
 withinLimits-is h =

@@ -104,7 +104,7 @@ fn records_form(s: &[u8], h: Header) -> Form
     form_after(h, pass, r.at, s.len())
 }
 
-// "Keys 1 to 16, clients 1 to 16"
+// "Keys 1 to" 32, "clients 1 to 16"
 fn within_limits(h: Header) -> bool
     ensures { λ r. ⌜ r ≡ withinLimits (headerOf h) ⌝ }
 {
