@@ -6,7 +6,8 @@ use model::beside::compare;
 use model::files::files;
 use model::generate::{exactly_full, record_places, taken_case};
 use model::random::Random;
-use model::trace::{encode, with_true_length};
+use model::store::Store;
+use model::trace::{commit_len, encode, with_true_length};
 use model::{outcome, Call};
 use std::collections::BTreeMap;
 
@@ -156,8 +157,8 @@ fn lying_numbers_of_operations() {
             if place + 10 > file.len() || file[place + 2] != 3 {
                 continue;
             }
-            for operations in (0..=40).chain([254, 255]) {
-                let length = 10 + 8 * operations + 8 * keys;
+            for operations in (0..=Store::MAX_OPERATIONS + 8).chain([254, 255]) {
+                let length = commit_len(operations, keys);
                 let mut lying = file.clone();
                 lying[place..place + 2].copy_from_slice(&(length as u16).to_le_bytes());
                 lying[place + 5] = operations as u8;
