@@ -117,7 +117,7 @@ impl Style {
             keeping.push(Written);
         }
         let used = random.between(2, 5);
-        let keys = self.keys.max(used);
+        let keys = number_of_keys(random, used);
         Style {
             keys,
             used: some_keys(random, used, keys).into_iter().collect(),
@@ -145,13 +145,13 @@ impl Style {
             93..=98 => random.between(17, 30),
             _ => random.between(31, Store::MAX_COMMITS),
         };
-        let keys = number_of_keys(random);
         let used = match random.below(100) {
             0..=9 => 1,
             10..=74 => random.between(2, 4),
             75..=89 => random.between(5, 8),
             _ => random.between(9, Store::MAX_KEYS),
         };
+        let keys = number_of_keys(random, used);
         let clients = match random.below(100) {
             0..=4 => 1,
             5..=79 => random.between(2, 5),
@@ -159,9 +159,7 @@ impl Style {
         };
         Style {
             keys,
-            used: some_keys(random, used.min(keys), keys)
-                .into_iter()
-                .collect(),
+            used: some_keys(random, used, keys).into_iter().collect(),
             clients,
             commits,
             values: random.pick(&[1, 2, 3, 100, 1 << 32]),
@@ -190,14 +188,13 @@ impl Style {
 /// The most keys that a trace could have before request E2.
 pub const FORMER_KEYS: usize = 16;
 
-/// How many keys a trace has: mostly more than it could have before.
-pub fn number_of_keys(random: &mut Random) -> usize {
-    match random.below(100) {
-        0..=4 => 1,
-        5..=29 => random.between(2, 4),
-        30..=36 => random.between(5, 8),
-        37..=42 => random.between(9, FORMER_KEYS),
-        _ => random.between(FORMER_KEYS + 1, Store::MAX_KEYS),
+/// How many keys a trace has where so many are used: mostly more than it could
+/// have before, or just these.
+pub fn number_of_keys(random: &mut Random, used: usize) -> usize {
+    if random.percent(57) {
+        random.between(FORMER_KEYS + 1, Store::MAX_KEYS).max(used)
+    } else {
+        used
     }
 }
 
@@ -325,9 +322,8 @@ impl Path {
         let links: Vec<Link> = (0..random.between(1, 5))
             .map(|_| random.pick(&kinds))
             .collect();
-        let least = links.len() + 2;
-        let keys = number_of_keys(random).max(least);
-        let mut used = some_keys(random, least, keys);
+        let keys = number_of_keys(random, links.len() + 2);
+        let mut used = some_keys(random, links.len() + 2, keys);
         for place in 0..used.len() {
             if random.percent(5) {
                 used[place] = used[0];
