@@ -546,11 +546,12 @@ fn filling() -> (usize, usize) {
     let empty = commit_len(0, Store::MAX_KEYS);
     let room = Store::MAX_BYTES - Store::MIN_BYTES - Store::MAX_COMMITS * empty;
     let most = Store::MAX_COMMITS * Store::MAX_OPERATIONS;
-    let operations = |shifts| {
+    let filled = |shifts| {
         let left = room - shifts * shift_len(Store::MAX_KEYS);
-        (left % 8 == 0 && left / 8 <= most).then_some((shifts, left / 8))
+        let operations = left / 8;
+        (8 * operations == left && operations <= most).then_some((shifts, operations))
     };
-    let found = (0..room / shift_len(Store::MAX_KEYS)).find_map(operations);
+    let found = (0..room / shift_len(Store::MAX_KEYS)).find_map(filled);
     found.expect("shifts and operations that fill a file")
 }
 
@@ -569,9 +570,10 @@ impl Builder {
     fn new(keys: usize, clients: usize, commits: usize) -> Builder {
         let longest = shift_len(keys) + commit_len(2 * keys, keys);
         let needed = Store::MIN_BYTES + (commits + 1) * longest;
+        let view = Rc::new(opening_view(keys));
         let state = State {
             store: Rc::new(Store::opening(keys)),
-            views: vec![Rc::new(opening_view(keys)); clients],
+            views: vec![view; clients],
         };
         let trace = Trace {
             keys,
