@@ -1,8 +1,10 @@
 //! Runs one judge on the timed traces again and again, for a profiler:
-//! `profile ordinary|proved [all|serial|snapshot|wild] [ROUNDS] [judge|replay]`.
+//! `profile ordinary|proved [all|serial|snapshot|wild] [ROUNDS] [judge|replay]
+//! [KEYS]`, over 16 keys if nothing else is said.
 
 use bench::contender::{contenders, JUDGE, REPLAY};
-use bench::traces::traces;
+use bench::form::COMMITS;
+use bench::traces::timed;
 use std::env::args;
 use std::hint::black_box;
 
@@ -13,19 +15,22 @@ fn main() {
         .nth(3)
         .map_or(100, |text| text.parse().expect("a number of rounds"));
     let call = args().nth(4).unwrap_or("judge".into());
-    let timed = [JUDGE, REPLAY].into_iter().find(|timed| timed.name == call);
-    let timed = timed.expect("the call: judge or replay");
-    let mut traces = traces(1, 1_000, 63, 16);
+    let call = [JUDGE, REPLAY].into_iter().find(|timed| timed.name == call);
+    let call = call.expect("the call: judge or replay");
+    let keys: usize = args()
+        .nth(5)
+        .map_or(16, |text| text.parse().expect("a number of keys"));
+    let mut traces = timed(COMMITS, keys);
     traces.retain(|trace| style == "all" || style == trace.style.name());
     let mut contenders = contenders();
     let contender = contenders
         .iter_mut()
         .find(|contender| contender.name() == judge);
     let contender = contender.expect("a judge that is linked in");
-    let mut buffer = vec![0; timed.room];
+    let mut buffer = vec![0; call.room];
     for _ in 0..rounds {
         for trace in &traces {
-            contender.call(timed.call, black_box(&trace.bytes), &mut buffer);
+            contender.call(call.call, black_box(&trace.bytes), &mut buffer);
         }
     }
 }

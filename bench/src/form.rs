@@ -3,17 +3,19 @@
 use crate::answer::Refusal;
 
 /// The most keys a rack has.
-pub const KEYS: usize = 16;
+pub const KEYS: usize = 32;
 /// The most clients a rack has.
 pub const CLIENTS: usize = 16;
 /// The most commits a trace has.
 pub const COMMITS: usize = 63;
+/// The most operations a commit has.
+const OPERATIONS: usize = 2 * KEYS;
 const MIN_BYTES: usize = 12;
 const MAX_BYTES: usize = 65_536;
 
 /// One mask of versions for each key; keys that the trace has not are 0, so
 /// that loops over a row have a fixed length.
-pub type Row = [u64; KEYS];
+pub type Row<const WIDTH: usize> = [u64; WIDTH];
 
 /// The header's numbers.
 pub struct Header {
@@ -146,7 +148,7 @@ impl<'a> Reader<'a> {
 
 /// The masks of a record into the places of its keys in a row.
 #[inline(always)]
-pub fn masks(bytes: &[u8], row: &mut Row) {
+pub fn masks<const WIDTH: usize>(bytes: &[u8], row: &mut Row<WIDTH>) {
     for (mask, bytes) in row.iter_mut().zip(bytes.chunks_exact(8)) {
         *mask = word(bytes);
     }
@@ -183,12 +185,22 @@ impl Operation {
 }
 
 /// The operations of one commit, reads apart from writes, each in order of keys.
-#[derive(Default)]
 pub struct Operations {
-    reads: [Operation; 2 * KEYS],
-    writes: [Operation; 2 * KEYS],
+    reads: [Operation; OPERATIONS],
+    writes: [Operation; OPERATIONS],
     read_count: usize,
     write_count: usize,
+}
+
+impl Default for Operations {
+    fn default() -> Operations {
+        Operations {
+            reads: [Operation::default(); OPERATIONS],
+            writes: [Operation::default(); OPERATIONS],
+            read_count: 0,
+            write_count: 0,
+        }
+    }
 }
 
 impl Operations {

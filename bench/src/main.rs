@@ -1,14 +1,17 @@
 //! The benchmark: times the ordinary judge, and the proved one beside it if it
-//! is linked in (feature `proved`), round by round on the same traces; then the
-//! replay beside the judge. With `--short` it leaves out how the times grow.
+//! is linked in (feature `proved`), round by round on the same traces, over 16
+//! keys and over 32; what of that goes to the arrays; then the replay beside the
+//! judge. With `--short` it leaves out how the times grow.
 
 use std::hint::black_box;
 use std::time::Instant;
 
 use bench::contender::{check, contenders, Contender, Timed, JUDGE, REPLAY, TAKING};
-use bench::traces::{describe, traces, Style, Trace};
+use bench::form::COMMITS;
+use bench::traces::{describe, timed, Style, Trace, NUMBER};
 
-const SEED: u64 = 1;
+/// Numbers of keys of the traces with a table of their own.
+const KEYS: [usize; 2] = [16, 32];
 const ROUNDS: usize = 21;
 
 /// The times of one contender in microseconds: a row for each round, in it a
@@ -64,37 +67,40 @@ impl Times {
     }
 }
 
+/// A call and the traces to make it on.
+type Task<'a> = (&'a Timed, &'a [Trace]);
+
 /// Times the contenders on the traces, one after the other in each round; who
 /// is first changes from round to round.
 fn time(contenders: &mut [Box<dyn Contender>], timed: &Timed, traces: &[Trace]) -> Vec<Times> {
-    let [times] = time_each(contenders, [timed], traces);
+    let [times] = time_each(contenders, [(timed, traces)]);
     times
 }
 
-/// The same for several calls, all of them in each round.
+/// The same for several tasks, all of them in each round.
 fn time_each<const N: usize>(
     contenders: &mut [Box<dyn Contender>],
-    timed: [&Timed; N],
-    traces: &[Trace],
+    tasks: [Task; N],
 ) -> [Vec<Times>; N] {
-    let mut buffers = timed.map(|timed| vec![0; timed.room]);
+    let mut buffers = tasks.map(|(timed, _)| vec![0; timed.room]);
     let mut times: [Vec<Times>; N] =
-        timed.map(|_| contenders.iter().map(|_| Times(Vec::new())).collect());
+        tasks.map(|_| contenders.iter().map(|_| Times(Vec::new())).collect());
     let turns = N * contenders.len();
     for round in 0..ROUNDS {
         for turn in 0..turns {
             let turn = (round + turn) % turns;
-            let (which, call) = (turn % contenders.len(), turn / contenders.len());
-            let (contender, buffer) = (&mut contenders[which], &mut buffers[call]);
+            let (which, task) = (turn % contenders.len(), turn / contenders.len());
+            let (contender, buffer) = (&mut contenders[which], &mut buffers[task]);
+            let (timed, traces) = tasks[task];
             let mut spent = Vec::with_capacity(traces.len());
             let mut start = Instant::now();
             for trace in traces {
-                contender.call(timed[call].call, black_box(&trace.bytes), buffer);
+                contender.call(timed.call, black_box(&trace.bytes), buffer);
                 let end = Instant::now();
                 spent.push((end - start).as_secs_f64() * 1e6);
                 start = end;
             }
-            times[call][which].0.push(spent);
+            times[task][which].0.push(spent);
         }
     }
     times
@@ -123,16 +129,31 @@ fn groups(traces: &[Trace]) -> Vec<Vec<usize>> {
     groups
 }
 
+/// The judge on traces over 16 keys and over 32, in the same rounds; and on
+/// files that have a header alone.
+fn print_judge(contenders: &mut [Box<dyn Contender>], sizes: [&[Trace]; 2]) {
+    let headers = timed(0, 1);
+    let [first, second] = sizes;
+    let tasks = [first, second, &headers].map(|traces| (&JUDGE, traces));
+    for (timed, traces) in tasks {
+        check(contenders, timed, traces);
+    }
+    let [first_times, second_times, headers_times] = time_each(contenders, tasks);
+    print_full(contenders, KEYS[0], first, &first_times);
+    print_full(contenders, KEYS[1], second, &second_times);
+    print_arrays(contenders, &headers_times, [&first_times, &second_times]);
+}
+
 /// The whole table for one set of traces.
-fn print_full(contenders: &mut [Box<dyn Contender>], traces: &[Trace]) {
-    let times = time(contenders, &JUDGE, traces);
+fn print_full(contenders: &[Box<dyn Contender>], keys: usize, traces: &[Trace], times: &[Times]) {
+    println!("\n{COMMITS} commits, {keys} keys: {}", describe(traces));
     let groups = groups(traces);
     print!("{:<12} {:>10} {:>9}", "judge", "", "all");
     for style in Style::ALL {
         print!(" {:>9}", style.name());
     }
     println!();
-    for (contender, times) in contenders.iter().zip(&times) {
+    for (contender, times) in contenders.iter().zip(times) {
         for way in Way::ALL {
             print!("{:<12} {:>10}", contender.name(), way.name());
             for group in &groups {
@@ -146,6 +167,28 @@ fn print_full(contenders: &mut [Box<dyn Contender>], traces: &[Trace]) {
             print!("{:<12} {:>10}", "ratio to 1st", way.name());
             for group in &groups {
                 print!(" {:>9.2}", other.of(way, group) / times[0].of(way, group));
+            }
+            println!();
+        }
+    }
+}
+
+/// What the arrays of a judge cost: the time for a file that ends at once.
+fn print_arrays(contenders: &[Box<dyn Contender>], headers: &[Times], sizes: [&[Times]; 2]) {
+    println!(
+        "\nthe arrays: a file of a header alone, one key, which costs little else than making"
+    );
+    println!("and clearing them; and its share of the time for a trace above, in a hundred");
+    print!("{:<12} {:>10}", "", "");
+    let [first, second] = KEYS.map(|keys| format!("{keys} keys"));
+    println!(" {:>9} {first:>9} {second:>9}", "time");
+    let all: Vec<usize> = (0..NUMBER).collect();
+    for (place, contender) in contenders.iter().enumerate() {
+        for way in Way::ALL {
+            let time = headers[place].of(way, &all);
+            print!("{:<12} {:>10} {time:>9.3}", contender.name(), way.name());
+            for times in sizes {
+                print!(" {:>9.1}", 100.0 * time / times[place].of(way, &all));
             }
             println!();
         }
@@ -167,7 +210,7 @@ fn print_replay(contenders: &mut [Box<dyn Contender>], mut traces: Vec<Trace>) {
         mean_replay(&mut contenders[0], &traces)
     );
     println!("taking: the judge with no image buffer; writing: replay less taking");
-    let times = time_each(contenders, rows, &traces);
+    let times = time_each(contenders, rows.map(|timed| (timed, &traces[..])));
     let all: Vec<usize> = (0..traces.len()).collect();
     print!("{:<12} {:>10}", "", "");
     for contender in contenders.iter() {
@@ -214,7 +257,7 @@ fn mean_replay(contender: &mut Box<dyn Contender>, traces: &[Trace]) -> u64 {
 }
 
 /// One line for each size: how the time grows.
-fn print_growth(contenders: &mut [Box<dyn Contender>], sizes: &[(usize, usize)], number: usize) {
+fn print_growth(contenders: &mut [Box<dyn Contender>], sizes: &[(usize, usize)]) {
     print!("{:>7} {:>5} {:>8}", "commits", "keys", "bytes");
     for (place, contender) in contenders.iter().enumerate() {
         print!("   {:>10}", contender.name());
@@ -227,7 +270,7 @@ fn print_growth(contenders: &mut [Box<dyn Contender>], sizes: &[(usize, usize)],
     }
     println!();
     for &(commits, keys) in sizes {
-        let traces = traces(SEED, number, commits, keys);
+        let traces = timed(commits, keys);
         check(contenders, &JUDGE, &traces);
         let times = time(contenders, &JUDGE, &traces);
         let all: Vec<usize> = (0..traces.len()).collect();
@@ -259,20 +302,19 @@ fn main() {
         println!("the judges take turns in each round, on the same traces and buffer");
     }
 
-    let long = traces(SEED, 1_000, 63, 16);
-    println!("\n63 commits, 16 keys: {}", describe(&long));
-    check(&mut contenders, &JUDGE, &long);
-    print_full(&mut contenders, &long);
+    let [long, wide] = KEYS.map(|keys| timed(COMMITS, keys));
+    print_judge(&mut contenders, [&long, &wide]);
+    drop(wide);
     print_replay(&mut contenders, long);
     if std::env::args().any(|argument| argument == "--short") {
         return;
     }
 
-    println!("\nby commits, 1,000 traces each");
-    let sizes = [1, 2, 4, 8, 16, 24, 32, 48, 63].map(|commits| (commits, 16));
-    print_growth(&mut contenders, &sizes, 1_000);
+    println!("\nby commits, {NUMBER} traces each");
+    let sizes = [1, 2, 4, 8, 16, 24, 32, 48, COMMITS].map(|commits| (commits, KEYS[0]));
+    print_growth(&mut contenders, &sizes);
 
-    println!("\nby keys, 1,000 traces each");
-    let sizes = [1, 2, 4, 8, 12, 16].map(|keys| (63, keys));
-    print_growth(&mut contenders, &sizes, 1_000);
+    println!("\nby keys, {NUMBER} traces each");
+    let sizes = [1, 2, 4, 8, 12, 16, 20, 24, 28, 32].map(|keys| (COMMITS, keys));
+    print_growth(&mut contenders, &sizes);
 }

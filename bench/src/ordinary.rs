@@ -9,6 +9,9 @@
 //! file. As a view holds all versions of a writer or none, what a view holds is
 //! kept as a set of commits too, and the clauses are tested on such sets. Keys
 //! and versions are looked for only when a level fails for the first time.
+//!
+//! Loops over all keys have a fixed length. There are two lengths, each with a
+//! workspace of its own: half of the keys, for a trace that has no more, and all.
 
 mod replay;
 
@@ -34,16 +37,25 @@ const LEVELS: [u16; 10] = [
     1 << 8,                                     // SER
 ];
 
-/// A judge with its workspace, which is used again for each trace.
+/// A judge with its workspaces, which are used again for each trace.
 pub struct Judge {
+    narrow: Workspace<NARROW>,
+    wide: Workspace<KEYS>,
+}
+
+/// The most keys of a trace that is judged on short rows.
+const NARROW: usize = KEYS / 2;
+
+/// What is kept of a trace while it is judged.
+struct Workspace<const WIDTH: usize> {
     keys: usize,
-    store: Store,
-    clients: [Client; CLIENTS],
+    store: Store<WIDTH>,
+    clients: [Client<WIDTH>; CLIENTS],
     links: Links,
     levels: Levels,
     /// The operations and the masks of the record at hand.
     operations: Operations,
-    fresh: Row,
+    fresh: Row<WIDTH>,
 }
 
 /// A fault of meaning (codes 9 to 14); the caller knows the record.
@@ -77,13 +89,8 @@ impl Default for Judge {
 impl Judge {
     pub fn new() -> Judge {
         Judge {
-            keys: 0,
-            store: Store::new(),
-            clients: [Client::default(); CLIENTS],
-            links: Links::default(),
-            levels: Levels::new(),
-            operations: Operations::default(),
-            fresh: [0; KEYS],
+            narrow: Workspace::new(),
+            wide: Workspace::new(),
         }
     }
 
@@ -91,14 +98,40 @@ impl Judge {
     /// otherwise the image of the final store stands at its start, and the
     /// bytes after it are as they were.
     pub fn judge(&mut self, trace: &[u8], image: &mut [u8]) -> Answer {
-        match self.try_judge(trace, image) {
+        let judged = form::header(trace).and_then(|header| {
+            if header.keys <= NARROW {
+                self.narrow.judge(trace, &header, image)
+            } else {
+                self.wide.judge(trace, &header, image)
+            }
+        });
+        match judged {
             Ok(report) => Answer::Judged(report),
             Err(refusal) => Answer::Refused(refusal),
         }
     }
+}
 
-    fn try_judge(&mut self, trace: &[u8], image: &mut [u8]) -> Result<Report, Refusal> {
-        let header = self.take(trace)?;
+impl<const WIDTH: usize> Workspace<WIDTH> {
+    fn new() -> Workspace<WIDTH> {
+        Workspace {
+            keys: 0,
+            store: Store::new(),
+            clients: [Client::opening(&[0; WIDTH]); CLIENTS],
+            links: Links::default(),
+            levels: Levels::new(),
+            operations: Operations::default(),
+            fresh: [0; WIDTH],
+        }
+    }
+
+    fn judge(
+        &mut self,
+        trace: &[u8],
+        header: &Header,
+        image: &mut [u8],
+    ) -> Result<Report, Refusal> {
+        self.take(trace, header)?;
         let image_len = self.store.image_len(header.keys);
         let Some(image) = image.get_mut(..image_len) else {
             return Err(Refusal::at(15, 0));
@@ -112,13 +145,12 @@ impl Judge {
         })
     }
 
-    /// Takes a trace file, or refuses it with one of codes 1 to 14: the store
-    /// and the verdicts are those at its end then.
-    fn take(&mut self, trace: &[u8]) -> Result<Header, Refusal> {
-        let header = form::header(trace)?;
+    /// Takes a trace file that has this header, or refuses it with one of codes
+    /// 3 to 14: the store and the verdicts are those at its end then.
+    fn take(&mut self, trace: &[u8], header: &Header) -> Result<(), Refusal> {
         self.open(header.keys);
 
-        let mut reader = Reader::new(trace, &header);
+        let mut reader = Reader::new(trace, header);
         let (mut fault, mut commits) = (None, 0);
         for number in 1..=header.records {
             let record = reader.next_record();
@@ -160,7 +192,7 @@ impl Judge {
         }
         match fault {
             Some(refusal) => Err(refusal),
-            None => Ok(header),
+            None => Ok(()),
         }
     }
 
@@ -168,14 +200,10 @@ impl Judge {
     fn open(&mut self, keys: usize) {
         self.keys = keys;
         self.store.open(keys);
-        let opening = Client {
-            view: self.store.full,
-            ..Client::default()
-        };
-        self.clients = [opening; CLIENTS];
+        self.clients = [Client::opening(&self.store.full); CLIENTS];
         self.links.open();
         self.levels = Levels::new();
-        self.fresh = [0; KEYS];
+        self.fresh = [0; WIDTH];
     }
 
     /// Replaces a client's view by one that holds as much or more.
@@ -268,9 +296,9 @@ impl Judge {
 }
 
 /// What is kept of a client.
-#[derive(Clone, Copy, Default)]
-struct Client {
-    view: Row,
+#[derive(Clone, Copy)]
+struct Client<const WIDTH: usize> {
+    view: Row<WIDTH>,
     /// The commits of which the view holds a version.
     held: u64,
     /// Its commits with operations.
@@ -281,7 +309,17 @@ struct Client {
     bar: u64,
 }
 
-impl Client {
+impl<const WIDTH: usize> Client<WIDTH> {
+    fn opening(view: &Row<WIDTH>) -> Client<WIDTH> {
+        Client {
+            view: *view,
+            held: 0,
+            stored: 0,
+            drawn: 0,
+            bar: 0,
+        }
+    }
+
     /// One more commit with operations.
     fn add(&mut self, me: usize, commit: &Commit) {
         self.stored |= 1 << me;
@@ -344,44 +382,44 @@ struct Version {
 }
 
 /// The store, with what it was after each commit.
-struct Store {
-    versions: [[Version; SLOTS]; KEYS],
+struct Store<const WIDTH: usize> {
+    versions: [[Version; SLOTS]; WIDTH],
     /// All versions of each key.
-    full: Row,
+    full: Row<WIDTH>,
     /// The commits that wrote each key. Version v is by the v-th of them.
-    wrote: Row,
+    wrote: Row<WIDTH>,
     /// The commits that wrote anything.
     writing: u64,
     commits: usize,
     log: [Commit; SLOTS],
     /// The versions by each commit.
-    own: [Row; SLOTS],
+    own: [Row<WIDTH>; SLOTS],
     /// `full` as it was after each commit.
-    history: [Row; SLOTS],
+    history: [Row<WIDTH>; SLOTS],
 }
 
-impl Store {
-    fn new() -> Store {
+impl<const WIDTH: usize> Store<WIDTH> {
+    fn new() -> Store<WIDTH> {
         Store {
-            versions: [[Version::default(); SLOTS]; KEYS],
-            full: [0; KEYS],
-            wrote: [0; KEYS],
+            versions: [[Version::default(); SLOTS]; WIDTH],
+            full: [0; WIDTH],
+            wrote: [0; WIDTH],
             writing: 0,
             commits: 0,
             log: [Commit::default(); SLOTS],
-            own: [[0; KEYS]; SLOTS],
-            history: [[0; KEYS]; SLOTS],
+            own: [[0; WIDTH]; SLOTS],
+            history: [[0; WIDTH]; SLOTS],
         }
     }
 
     /// The opening store. Places beyond the counts keep what they had.
     fn open(&mut self, keys: usize) {
-        self.full = [0; KEYS];
+        self.full = [0; WIDTH];
         self.full[..keys].fill(1);
         for versions in &mut self.versions[..keys] {
             versions[0] = Version::default();
         }
-        self.wrote = [0; KEYS];
+        self.wrote = [0; WIDTH];
         self.writing = 0;
         self.commits = 0;
         self.history[0] = self.full;
@@ -390,7 +428,7 @@ impl Store {
     /// Enters a commit: reads first, as they look at the store before it.
     fn enter(
         &mut self,
-        client: &Client,
+        client: &Client<WIDTH>,
         number: usize,
         session: u32,
         operations: &Operations,
@@ -415,7 +453,7 @@ impl Store {
     /// Enters the reads of a commit; code 13 is due at the least key whose
     /// newest version in the view has another value.
     #[inline(never)] // so that its loop has the registers to itself
-    fn read(&mut self, view: &Row, reads: &[Operation], me: usize) -> Result<Reads, Fault> {
+    fn read(&mut self, view: &Row<WIDTH>, reads: &[Operation], me: usize) -> Result<Reads, Fault> {
         let mut result = Reads::default();
         for read in reads {
             let key = read.key();
@@ -438,7 +476,7 @@ impl Store {
     fn write(&mut self, writes: &[Operation], me: usize) -> Writes {
         let mut result = Writes::default();
         let own = &mut self.own[me];
-        *own = [0; KEYS];
+        *own = [0; WIDTH];
         for write in writes {
             let key = write.key();
             let bit = self.full[key] + 1;
@@ -458,7 +496,7 @@ impl Store {
     }
 
     /// The least key whose mask lacks version 0 or holds one that is not there.
-    fn least_bad_key(&self, fresh: &Row) -> Option<usize> {
+    fn least_bad_key(&self, fresh: &Row<WIDTH>) -> Option<usize> {
         let bad = |(&fresh, &full): (&u64, &u64)| (full & 1 & !fresh) | (fresh & !full);
         // Mostly there is none, so all keys are looked at together first.
         let masks = fresh.iter().zip(&self.full);
@@ -470,7 +508,7 @@ impl Store {
 
     /// If the masks are those of the whole store as it was after some commit,
     /// the commits that they hold.
-    fn snapshot(&self, keys: usize, fresh: &Row) -> Option<u64> {
+    fn snapshot(&self, keys: usize, fresh: &Row<WIDTH>) -> Option<u64> {
         // Such a mask has no bit above one that it lacks.
         let holes = |mask: &u64| mask & mask.wrapping_add(1);
         if fresh.iter().map(holes).fold(0, |any, holes| any | holes) != 0 {
@@ -486,10 +524,16 @@ impl Store {
 
     /// The commits held by a view that comes after another one which holds
     /// `held` and lacks `lacking`; code 11 if it has a writer in part.
-    fn changed(&self, view: &Row, held: u64, fresh: &Row, lacking: u64) -> Result<u64, Fault> {
+    fn changed(
+        &self,
+        view: &Row<WIDTH>,
+        held: u64,
+        fresh: &Row<WIDTH>,
+        lacking: u64,
+    ) -> Result<u64, Fault> {
         let gained = self.whole_writers(lacking, &beyond(fresh, view));
         let lost = beyond(view, fresh);
-        let lost = if same(&lost, &[0; KEYS]) {
+        let lost = if same(&lost, &[0; WIDTH]) {
             Some(0)
         } else {
             self.whole_writers(held, &lost)
@@ -502,14 +546,14 @@ impl Store {
 
     /// Those of the candidates whose versions are in the masks; nothing if the
     /// masks are not exactly the versions of some of them.
-    fn whole_writers(&self, candidates: u64, masks: &Row) -> Option<u64> {
+    fn whole_writers(&self, candidates: u64, masks: &Row<WIDTH>) -> Option<u64> {
         let mut writers = 0;
         for writer in members(candidates) {
             // One of its versions tells of all.
             let key = lowest(self.log[writer].writes.keys);
             writers |= u64::from(masks[key] & self.own[writer][key] != 0) << writer;
         }
-        let mut versions = [0; KEYS];
+        let mut versions = [0; WIDTH];
         for writer in members(writers) {
             versions = joined(&versions, &self.own[writer]);
         }
@@ -518,7 +562,7 @@ impl Store {
 
     /// Code 11: the least version that is lacking of a writer held in part.
     #[cold]
-    fn half_held(&self, fresh: &Row) -> Fault {
+    fn half_held(&self, fresh: &Row<WIDTH>) -> Fault {
         let mut held: u64 = 0;
         for (versions, mask) in self.versions.iter().zip(fresh) {
             for version in members(mask & !1) {
@@ -533,7 +577,11 @@ impl Store {
     }
 
     /// The least version in the masks, by key and then number, that is wanted.
-    fn least(&self, masks: &Row, wanted: impl Fn(&Version) -> bool) -> Option<(usize, usize)> {
+    fn least(
+        &self,
+        masks: &Row<WIDTH>,
+        wanted: impl Fn(&Version) -> bool,
+    ) -> Option<(usize, usize)> {
         for (key, (versions, &mask)) in self.versions.iter().zip(masks).enumerate() {
             for version in members(mask) {
                 if wanted(&versions[version]) {
@@ -613,7 +661,7 @@ struct Steps {
     /// The commits one step before each.
     rows: [u64; SLOTS],
     /// For each key, what leads to its readers by the links that RW may follow.
-    leads: Row,
+    leads: [u64; KEYS],
     /// The number of commits that are in the rows and the leads.
     entered: usize,
     /// Bit p: some step leads from a commit above p to one that is not.
@@ -660,7 +708,7 @@ impl Steps {
 
     /// Brings the rows up to all commits before the one at hand; `first` gives
     /// the links to a commit that RW may follow.
-    fn catch_up(&mut self, store: &Store, first: fn(&Commit) -> u64) {
+    fn catch_up<const WIDTH: usize>(&mut self, store: &Store<WIDTH>, first: fn(&Commit) -> u64) {
         for me in self.entered + 1..store.commits {
             let commit = &store.log[me];
             let first = first(commit);
@@ -702,10 +750,10 @@ struct Levels {
 }
 
 /// What a commit is judged by, beside the store.
-struct Step<'a> {
+struct Step<'a, const WIDTH: usize> {
     record: u32,
-    view: &'a Row,
-    fresh: &'a Row,
+    view: &'a Row<WIDTH>,
+    fresh: &'a Row<WIDTH>,
     had: u64,
 }
 
@@ -723,7 +771,13 @@ impl Levels {
 
     /// The failing ones of clauses 3 to 8, as far as they are asked for, where
     /// the view before holds the commits `had` and lacks others.
-    fn failing_before(&self, store: &Store, links: &mut Links, had: u64, lacking: u64) -> u16 {
+    fn failing_before<const WIDTH: usize>(
+        &self,
+        store: &Store<WIDTH>,
+        links: &mut Links,
+        had: u64,
+        lacking: u64,
+    ) -> u16 {
         let mut failing = 1 << 8;
         let commit = &store.log[store.commits];
         if commit.writes.earlier & lacking != 0 {
@@ -752,7 +806,13 @@ impl Levels {
     /// Notes the failure of each level that has not failed before and asks for
     /// a failing clause.
     #[cold]
-    fn strike(&mut self, failing: u16, store: &Store, links: &Links, step: &Step) {
+    fn strike<const WIDTH: usize>(
+        &mut self,
+        failing: u16,
+        store: &Store<WIDTH>,
+        links: &Links,
+        step: &Step<WIDTH>,
+    ) {
         self.asked = 0;
         for (verdict, clauses) in self.verdicts.iter_mut().zip(LEVELS) {
             if *verdict != Verdict::Accepted {
@@ -778,7 +838,12 @@ impl Levels {
 }
 
 /// The least version that a clause wants and that is not there.
-fn missing(clause: u8, store: &Store, links: &Links, step: &Step) -> Option<(usize, usize)> {
+fn missing<const WIDTH: usize>(
+    clause: u8,
+    store: &Store<WIDTH>,
+    links: &Links,
+    step: &Step<WIDTH>,
+) -> Option<(usize, usize)> {
     let own = &store.own[store.commits];
     // What the view lacks of the store before the commit.
     let mut lacked = beyond(&beyond(&store.full, own), step.view);
@@ -806,7 +871,7 @@ fn missing(clause: u8, store: &Store, links: &Links, step: &Step) -> Option<(usi
 }
 
 /// Code 12, if the fresh view has not all of the old one.
-fn least_lost(view: &Row, fresh: &Row) -> Option<Fault> {
+fn least_lost<const WIDTH: usize>(view: &Row<WIDTH>, fresh: &Row<WIDTH>) -> Option<Fault> {
     if !any_beyond(view, fresh) {
         return None;
     }
@@ -816,7 +881,7 @@ fn least_lost(view: &Row, fresh: &Row) -> Option<Fault> {
 }
 
 /// What the first row has and the second has not.
-fn beyond(first: &Row, second: &Row) -> Row {
+fn beyond<const WIDTH: usize>(first: &Row<WIDTH>, second: &Row<WIDTH>) -> Row<WIDTH> {
     let mut row = *first;
     for (mask, second) in row.iter_mut().zip(second) {
         *mask &= !second;
@@ -825,13 +890,13 @@ fn beyond(first: &Row, second: &Row) -> Row {
 }
 
 /// Whether the first row has anything that the second has not.
-fn any_beyond(first: &Row, second: &Row) -> bool {
+fn any_beyond<const WIDTH: usize>(first: &Row<WIDTH>, second: &Row<WIDTH>) -> bool {
     let masks = first.iter().zip(second);
     masks.fold(0, |any, (first, second)| any | (first & !second)) != 0
 }
 
 /// What either row has.
-fn joined(first: &Row, second: &Row) -> Row {
+fn joined<const WIDTH: usize>(first: &Row<WIDTH>, second: &Row<WIDTH>) -> Row<WIDTH> {
     let mut row = *first;
     for (mask, second) in row.iter_mut().zip(second) {
         *mask |= second;
@@ -840,7 +905,7 @@ fn joined(first: &Row, second: &Row) -> Row {
 }
 
 /// Whether two rows are equal, without a branch for each key.
-fn same(first: &Row, second: &Row) -> bool {
+fn same<const WIDTH: usize>(first: &Row<WIDTH>, second: &Row<WIDTH>) -> bool {
     let masks = first.iter().zip(second);
     masks.fold(0, |differing, (first, second)| differing | (first ^ second)) == 0
 }

@@ -47,7 +47,16 @@ pub struct Trace {
     pub operations: usize,
 }
 
-/// Traces of so many commits over so many keys, by 16 clients.
+/// How many traces are timed.
+pub const NUMBER: usize = 1_000;
+
+/// The traces of so many commits over so many keys that are timed.
+pub fn timed(commits: usize, keys: usize) -> Vec<Trace> {
+    traces(1, NUMBER, commits, keys)
+}
+
+/// Traces of so many commits over so many keys, by 16 clients. The file is long
+/// enough for each commit to have a shift before it and all operations.
 pub fn traces(seed: u64, number: usize, commits: usize, keys: usize) -> Vec<Trace> {
     let mut random = Random::seeded(seed);
     (0..number)

@@ -1,7 +1,8 @@
 //! The ordinary judge against a plain model: the same answer to every file, the
 //! same bytes in the lent buffer, of each call.
 
-use bench::traces::{describe, traces};
+use bench::form::COMMITS;
+use bench::traces::{describe, timed, traces, Trace};
 use bench::Judge;
 use model::buffer::{pattern, untouched, LONG};
 use model::met::Met;
@@ -95,11 +96,14 @@ fn example_traces() {
 fn timed_traces() {
     let mut judge = Judge::new();
     let sizes = [
+        (0, 1),
         (1, 1),
         (2, 2),
         (5, 1),
         (8, 3),
+        (8, 17),
         (16, 16),
+        (16, 32),
         (30, 5),
         (32, 1),
         (63, 1),
@@ -107,6 +111,8 @@ fn timed_traces() {
         (63, 4),
         (63, 8),
         (63, 16),
+        (63, 20),
+        (63, 32),
     ];
     for (commits, keys) in sizes {
         for (number, trace) in traces(7, 20, commits, keys).iter().enumerate() {
@@ -121,13 +127,31 @@ fn timed_traces() {
 /// something to tell of each level.
 #[test]
 fn what_is_timed() {
-    let timed = traces(1, 1_000, 63, 16);
-    let due = "1000 traces (400 serial, 400 snapshot, 200 wild); \
-               mean: 23365 bytes, 118 records, 906 operations";
-    assert_eq!(describe(&timed), due);
+    let sorts = "1000 traces (400 serial, 400 snapshot, 200 wild)";
+    for (keys, mean, due) in [
+        (
+            16,
+            "mean: 23365 bytes, 118 records, 906 operations",
+            [190, 200, 199, 200, 200, 600, 600, 595, 600, 600],
+        ),
+        (
+            32,
+            "mean: 45727 bytes, 118 records, 1813 operations",
+            [95, 200, 200, 200, 200, 600, 600, 597, 600, 600],
+        ),
+    ] {
+        let timed = timed(COMMITS, keys);
+        assert_eq!(describe(&timed), format!("{sorts}; {mean}"));
+        let refusing = refusing(&timed);
+        assert_eq!(refusing, due, "{keys} keys: traces that each level refuses");
+    }
+}
+
+/// How many of the traces each level refuses; all of them are taken.
+fn refusing(traces: &[Trace]) -> [usize; 10] {
     let mut judge = Judge::new();
     let mut refusing = [0; 10];
-    for (number, trace) in timed.iter().enumerate() {
+    for (number, trace) in traces.iter().enumerate() {
         let answer = judge.judge(&trace.bytes, &mut pattern(LONG));
         let Answer::Judged(report) = Answer::from(answer) else {
             panic!("trace {number}: not taken");
@@ -136,8 +160,7 @@ fn what_is_timed() {
             *count += usize::from(verdict != Verdict::Accepted);
         }
     }
-    let due = [190, 200, 199, 200, 200, 600, 600, 595, 600, 600];
-    assert_eq!(refusing, due, "traces that each level refuses");
+    refusing
 }
 
 /// The proved calls, as they are timed, on the traces that they are timed with:
@@ -149,11 +172,14 @@ fn proved_calls_on_timed_traces() {
     use bench::traces::Style;
     let mut contenders = contenders();
     assert_eq!(contenders.len(), 2, "they are linked in");
-    let mut timed = traces(1, 1_000, 63, 16);
-    check(&mut contenders, &JUDGE, &timed);
-    timed.retain(|trace| trace.style == Style::Serial);
-    check(&mut contenders, &TAKING, &timed);
-    check(&mut contenders, &REPLAY, &timed);
+    check(&mut contenders, &JUDGE, &timed(0, 1));
+    for keys in [16, 32] {
+        let mut traces = timed(COMMITS, keys);
+        check(&mut contenders, &JUDGE, &traces);
+        traces.retain(|trace| trace.style == Style::Serial);
+        check(&mut contenders, &TAKING, &traces);
+        check(&mut contenders, &REPLAY, &traces);
+    }
 }
 
 /// The timed traces with one bit changed, short and long ones: refusals deep
@@ -162,10 +188,11 @@ fn proved_calls_on_timed_traces() {
 fn spoiled_traces() {
     let mut judge = Judge::new();
     let mut codes: BTreeMap<u8, usize> = BTreeMap::new();
-    for (number, commits, keys, changes) in [(60, 12, 5, 40), (40, 63, 2, 40), (10, 63, 4, 40)] {
+    let sizes = [(60, 12, 5), (40, 12, 20), (40, 63, 2), (10, 63, 4)];
+    for (number, commits, keys) in sizes {
         for (number, trace) in traces(11, number, commits, keys).iter().enumerate() {
             let mut bytes = trace.bytes.clone();
-            for change in 0..changes {
+            for change in 0..40 {
                 let place = (number * 7919 + change * 104_729) % bytes.len();
                 let kept = bytes[place];
                 bytes[place] ^= 1 << (change % 8);

@@ -26,9 +26,9 @@ extern "C" {
 /* The most bytes that a trace file may have; a longer one is code 1. */
 #define CONSISTENCY_LONGEST_FILE 65536
 /* No image is longer; a buffer of this length is never too short. */
-#define CONSISTENCY_LONGEST_IMAGE 16960
+#define CONSISTENCY_LONGEST_IMAGE 33408
 /* No replay is longer; a buffer of this length is never too short. */
-#define CONSISTENCY_LONGEST_REPLAY 33276
+#define CONSISTENCY_LONGEST_REPLAY 65532
 /* No report is longer. */
 #define CONSISTENCY_LONGEST_REPORT 1272
 
@@ -89,7 +89,7 @@ uint64_t judge_file(const uint8_t *file, size_t file_length,
                     uint64_t *words, size_t words_length);
 
 #define CONSISTENCY_JUDGE_WORDS 44
-#define CONSISTENCY_JUDGE_STACK 32768
+#define CONSISTENCY_JUDGE_STACK 65536
 
 /* Where the four words of each level begin. A level fails at the first commit that fails one of its clauses, by the lowest of these:
  *
@@ -148,7 +148,7 @@ uint64_t replay_file(const uint8_t *file, size_t file_length,
                      uint64_t *words, size_t words_length);
 
 #define CONSISTENCY_REPLAY_WORDS 5
-#define CONSISTENCY_REPLAY_STACK 32768
+#define CONSISTENCY_REPLAY_STACK 65536
 
 /* Judges the trace file as `judge_file` does and writes the report, text with a line feed at the end of each line and no 0 byte, at the
  * start of `text`. Answers the length of the report. Where `text` has less than CONSISTENCY_LONGEST_REPORT bytes nothing is judged or
@@ -157,7 +157,7 @@ size_t report_file(const uint8_t *file, size_t file_length,
                    uint8_t *image, size_t image_length,
                    uint8_t *text, size_t text_length);
 
-#define CONSISTENCY_REPORT_STACK 32768
+#define CONSISTENCY_REPORT_STACK 65536
 
 #ifdef __cplusplus
 }

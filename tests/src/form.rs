@@ -2,12 +2,17 @@
 //! trace, or the first fault of form. Nothing here looks at the store.
 
 use crate::store::{Key, Store, Version, View};
-use crate::trace::{Operation, OperationKind, Record, Trace};
+use crate::trace::{commit_len, shift_len, Operation, OperationKind, Record, Trace};
 use crate::Refusal;
 
 /// Reads a whole file. The faults come in the order of the paper: 1 and 2,
 /// then record after record, then 5.
 pub fn read(file: &[u8]) -> Result<Trace, Refusal> {
+    read_within(file, Store::MAX_KEYS, Store::MAX_CLIENTS)
+}
+
+/// The same with the limits of code 2 left open.
+pub fn read_within(file: &[u8], most_keys: usize, most_clients: usize) -> Result<Trace, Refusal> {
     if file.len() < Store::MIN_BYTES || file.len() > Store::MAX_BYTES {
         return Err(Refusal::at(1, 0));
     }
@@ -21,13 +26,13 @@ pub fn read(file: &[u8]) -> Result<Trace, Refusal> {
     if length != 8 || kind != 1 {
         return Err(Refusal::at(2, 0));
     }
-    if !(1..=Store::MAX_KEYS).contains(&keys) || !(1..=Store::MAX_CLIENTS).contains(&clients) {
+    if !(1..=most_keys).contains(&keys) || !(1..=most_clients).contains(&clients) {
         return Err(Refusal::at(2, 0));
     }
 
     let mut records = Vec::new();
     let mut commits = 0;
-    let mut place = 12;
+    let mut place = Store::MIN_BYTES;
     for number in 1..=count {
         let (record, length) = read_record(&file[place..], number, keys, clients)?;
         if let Record::Commit { .. } = record {
@@ -88,9 +93,9 @@ fn length_of(left: &[u8], keys: usize) -> Result<usize, u8> {
         return Err(3);
     }
     let due = match u16_at(left, 2) {
-        2 => 6 + 8 * keys,
+        2 => shift_len(keys),
         3 if left.len() < 6 => return Err(3),
-        3 => 10 + 8 * left[5] as usize + 8 * keys,
+        3 => commit_len(left[5] as usize, keys),
         _ => return Err(4),
     };
     if u16_at(left, 0) as usize != due || due > left.len() {

@@ -10,7 +10,8 @@ pub mod taken;
 pub use mangled::{mangled, record_places};
 pub use planted::{competing, planted};
 pub use taken::{
-    build, build_path, exactly_full, largest, largest_serial, Built, Numbering, Rule, Seeing, Style,
+    build, build_path, exactly_full, largest, largest_serial, Built, Numbering, Rule, Seeing,
+    Style, FORMER_KEYS,
 };
 
 use crate::random::Random;

@@ -3,8 +3,12 @@
 use crate::store::Store;
 use crate::trace::with_true_length;
 
-/// No image is longer: 63 commits, each of them a writer of all 16 keys.
-pub const LONGEST: usize = 16_960;
+/// No image is longer: as many commits as there may be, each of them a writer
+/// of as many keys.
+pub const LONGEST: usize = {
+    let versions = Store::MAX_COMMITS + 1;
+    8 + 8 * Store::MAX_COMMITS + Store::MAX_KEYS * (4 + 16 * versions)
+};
 
 /// The image of a store, whole.
 pub fn image(store: &Store) -> Vec<u8> {

@@ -1,7 +1,7 @@
 //! What a run over many files met, counted: to be printed, and to fail where
 //! something was never met.
 
-use crate::generate::{case, Case, KINDS};
+use crate::generate::{case, record_places, Case, FORMER_KEYS, KINDS};
 use crate::levels::LEVELS;
 use crate::store::Store;
 use crate::{outcome, Call, Outcome, Refusal, Taken, Verdict};
@@ -11,6 +11,8 @@ use std::collections::{BTreeMap, BTreeSet};
 pub struct Met {
     /// Files of each kind.
     kinds: BTreeMap<&'static str, usize>,
+    /// Files by the number of keys in the header: in all, and those taken.
+    keys: BTreeMap<usize, (usize, usize)>,
     /// For each code planted alone, the records where it was.
     planted: BTreeMap<u8, BTreeSet<usize>>,
     /// Two codes planted together: in all, and in one record.
@@ -23,7 +25,9 @@ pub struct Met {
     clauses: BTreeMap<(&'static str, u8), usize>,
     /// The failures of SER, as code 16 names them.
     ser_failures: BTreeSet<Refusal>,
-    /// The longest of the files judged, and of what each call writes of them.
+    /// The most operations of a commit in the files that are taken.
+    most_operations: usize,
+    /// The longest of these files, and of what each call writes of them.
     longest_file: usize,
     longest_written: BTreeMap<Call, usize>,
 }
@@ -40,6 +44,7 @@ impl Met {
             let case = case(seed);
             let outcome = outcome(&case.bytes);
             met.file(&case);
+            met.header(&case.bytes, outcome.is_ok());
             if let Ok(taken) = &outcome {
                 met.taken(&case.bytes, taken);
             }
@@ -72,6 +77,15 @@ impl Met {
         }
     }
 
+    /// Counts a file by its keys, if it is long enough to say how many.
+    fn header(&mut self, file: &[u8], is_taken: bool) {
+        if let Some(&keys) = file.get(8) {
+            let files = self.keys.entry(keys.into()).or_default();
+            files.0 += 1;
+            files.1 += is_taken as usize;
+        }
+    }
+
     /// Counts the verdicts on a file that is taken.
     fn taken(&mut self, file: &[u8], taken: &Taken) {
         let verdicts = &taken.report.verdicts;
@@ -84,6 +98,7 @@ impl Met {
         if let Err(refusal) = taken.replay {
             self.ser_failures.insert(refusal);
         }
+        self.most_operations = self.most_operations.max(most_operations(file));
         self.longest_file = self.longest_file.max(file.len());
     }
 
@@ -91,6 +106,10 @@ impl Met {
     pub fn add(&mut self, other: Met) {
         for (kind, count) in other.kinds {
             *self.kinds.entry(kind).or_default() += count;
+        }
+        for (keys, (files, taken)) in other.keys {
+            let counts = self.keys.entry(keys).or_default();
+            *counts = (counts.0 + files, counts.1 + taken);
         }
         for (code, records) in other.planted {
             self.planted.entry(code).or_default().extend(records);
@@ -109,6 +128,7 @@ impl Met {
             *self.clauses.entry(clause).or_default() += count;
         }
         self.ser_failures.extend(other.ser_failures);
+        self.most_operations = self.most_operations.max(other.most_operations);
         self.longest_file = self.longest_file.max(other.longest_file);
         for (call, length) in other.longest_written {
             let longest = self.longest_written.entry(call).or_default();
@@ -120,6 +140,10 @@ impl Met {
         println!("files of each kind");
         for (kind, count) in &self.kinds {
             println!("  {kind}: {count}");
+        }
+        println!("files of each number of keys, of these taken");
+        for (keys, (files, taken)) in &self.keys {
+            println!("  {keys}: {files}, {taken}");
         }
         println!("codes planted alone, at so many different records");
         for (code, records) in &self.planted {
@@ -144,6 +168,7 @@ impl Met {
         println!("{} combinations", self.combinations.len());
         let [records, keys, versions] = self.named_by_16();
         println!("named by code 16: {records} records, {keys} keys, {versions} versions");
+        println!("most operations of a commit {}", self.most_operations);
         println!("longest file {}", self.longest_file);
         for (call, length) in &self.longest_written {
             println!("longest that {} writes: {length}", call.name());
@@ -168,6 +193,7 @@ impl Met {
         for kind in KINDS {
             assert!(self.kinds.contains_key(kind), "no file of kind: {kind}");
         }
+        self.lacks_no_keys();
         for code in 1..=14 {
             let records = self.planted.get(&code).map_or(0, BTreeSet::len);
             let due = if code <= 2 { 1 } else { 10 };
@@ -189,11 +215,43 @@ impl Met {
         }
         let met: BTreeSet<String> = self.combinations.keys().cloned().collect();
         assert_eq!(met, possible_combinations());
+        assert_eq!(self.most_operations, Store::MAX_OPERATIONS);
         assert_eq!(self.longest_file, Store::MAX_BYTES);
         for call in Call::ALL {
             assert_eq!(self.longest_written[&call], call.longest(), "{call:?}");
         }
     }
+
+    /// Every number of keys that a trace may have is met, and the first that it
+    /// may not. At least half of the files have more keys than a trace could
+    /// have before, and at least half of those taken.
+    fn lacks_no_keys(&self) {
+        for keys in 1..=Store::MAX_KEYS {
+            let taken = self.keys.get(&keys).map_or(0, |files| files.1);
+            assert!(taken > 0, "no trace of {keys} keys is taken");
+        }
+        let above = Store::MAX_KEYS + 1;
+        assert!(self.keys.contains_key(&above), "no file of {above} keys");
+
+        let wide = || self.keys.range(FORMER_KEYS + 1..=Store::MAX_KEYS);
+        let all: usize = self.kinds.values().sum();
+        let of_all: usize = wide().map(|(_, files)| files.0).sum();
+        assert!(2 * of_all >= all, "{of_all} of {all} files");
+        let taken: usize = self.keys.values().map(|files| files.1).sum();
+        let of_taken: usize = wide().map(|(_, files)| files.1).sum();
+        assert!(2 * of_taken >= taken, "{of_taken} of {taken} taken files");
+    }
+}
+
+/// The most operations of a commit in a file that is taken.
+fn most_operations(file: &[u8]) -> usize {
+    let commits = record_places(file)
+        .into_iter()
+        .filter(|&place| file.get(place + 2) == Some(&3));
+    commits
+        .map(|place| file[place + 5].into())
+        .max()
+        .unwrap_or_default()
 }
 
 /// The codes of each call: none, 1 to 14, and its own.

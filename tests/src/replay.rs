@@ -2,11 +2,17 @@
 //! words of demand 3" as a file, and what the call that writes it answers.
 
 use crate::run::Run;
-use crate::trace::{encode, Record, Trace};
+use crate::store::Store;
+use crate::trace::{commit_len, encode, shift_len, Record, Trace};
 use crate::{put, Refusal, Verdict};
 
-/// No replay is longer: 63 commits of 32 operations on 16 keys.
-pub const LONGEST: usize = 33_276;
+/// No replay is longer: as many commits as there may be, of as many operations
+/// on as many keys, each with a shift before it.
+pub const LONGEST: usize = {
+    let shift = shift_len(Store::MAX_KEYS);
+    let commit = commit_len(Store::MAX_OPERATIONS, Store::MAX_KEYS);
+    Store::MIN_BYTES + Store::MAX_COMMITS * (shift + commit)
+};
 
 /// What a trace file is answered with where its replay is asked for.
 #[derive(Clone, Copy, PartialEq, Eq, Debug)]

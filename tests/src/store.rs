@@ -1,5 +1,6 @@
-//! Sections "Sizes of a rack" and "Store and views": the limits, the store
-//! with its versions, and what makes a set of versions a view of it.
+//! Sections "Sizes of a rack" and "Store and views": the limits, that of the
+//! keys by request E2; the store with its versions; and what makes a set of
+//! versions a view of it.
 
 use crate::trace::{Operation, OperationKind};
 use std::collections::BTreeSet;
@@ -45,9 +46,12 @@ pub struct Store {
 }
 
 impl Store {
-    pub const MAX_KEYS: usize = 16;
+    pub const MAX_KEYS: usize = 32;
     pub const MAX_CLIENTS: usize = 16;
     pub const MAX_COMMITS: usize = 63;
+    /// Of a commit: a read and a write of each key.
+    pub const MAX_OPERATIONS: usize = 2 * Store::MAX_KEYS;
+    /// A header without records.
     pub const MIN_BYTES: usize = 12;
     pub const MAX_BYTES: usize = 65_536;
 

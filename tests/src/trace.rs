@@ -106,6 +106,16 @@ fn operation_bytes(operation: &Operation) -> Vec<u8> {
     bytes
 }
 
+/// The length of a record of kind 2.
+pub const fn shift_len(keys: usize) -> usize {
+    6 + 8 * keys
+}
+
+/// The length of a record of kind 3 with so many operations.
+pub const fn commit_len(operations: usize, keys: usize) -> usize {
+    10 + 8 * operations + 8 * keys
+}
+
 /// One mask for each key; bit i stands for version i.
 fn mask_bytes(view: &View, keys: usize) -> Vec<u8> {
     let mut masks = vec![0u64; keys];

@@ -8,6 +8,7 @@ use model::generate::{exactly_full, file, largest, largest_serial};
 use model::levels::{place_of, LEVELS};
 use model::programs::{printed, run, Said};
 use model::random::Random;
+use model::store::Store;
 use model::trace::encode;
 use model::{judge_with_room, replay, Answer, Call, Replay, Verdict};
 use std::fs::{self, File, OpenOptions};
@@ -207,6 +208,9 @@ fn the_readme_has_the_examples() {
 fn the_numbers_of_the_header() {
     let header = text("bindings/c/consistency.h");
     let has = |line: String| assert!(header.contains(&line), "{line}");
+    let longest = [consistency::LONGEST_IMAGE, consistency::LONGEST_REPLAY];
+    assert_eq!(longest, Call::ALL.map(Call::longest));
+    assert_eq!(consistency::LONGEST_FILE, Store::MAX_BYTES);
     let defines = |name: &str, number: usize| {
         has(format!("#define CONSISTENCY_{name} {number}\n"));
     };

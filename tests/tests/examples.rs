@@ -6,7 +6,7 @@ use model::generate::largest_serial;
 use model::levels::place_of;
 use model::random::Random;
 use model::trace::{encode, with_true_length};
-use model::{judge, outcome, replay, report, Answer, Refusal, Replay, Verdict};
+use model::{image, judge, outcome, replay, report, Answer, Refusal, Replay, Verdict};
 
 #[test]
 fn all_example_traces() {
@@ -209,12 +209,22 @@ fn replay_of_e() {
     }
 }
 
+/// The lengths that request E2 gives.
 #[test]
-fn the_longest_replay() {
+fn the_longest_image_and_the_longest_replay() {
     let file = encode(&largest_serial(&mut Random::seeded(1)).trace);
+    let length = 8 + 8 * 63 + 32 * (4 + 16 * 64);
+    assert_eq!([length, image::LONGEST], [33_408; 2]);
+    let mut buffer = pattern(LONG);
+    let Answer::Judged(judged) = judge(&file, &mut buffer) else {
+        panic!()
+    };
+    assert_eq!(judged.image_len, length);
+    assert!(untouched(&buffer, length));
+
+    let length = 12 + 63 * (16 + 32 * 32);
+    assert_eq!([length, replay::LONGEST], [65_532; 2]);
     let mut buffer = pattern(LONG_FILE);
-    let length = 12 + 63 * (16 + 32 * 16);
-    assert_eq!(length, 33_276);
     assert_eq!(replay(&file, &mut buffer), Replay::Written(length));
     assert!(untouched(&buffer, length));
 }

@@ -3,6 +3,7 @@
 
 use model::example_traces::{trace_b, trace_e};
 use model::files::{arguments, at, files, printed, replay_of, report_of};
+use model::store::Store;
 use model::trace::encode;
 use model::{outcome, Call};
 use std::collections::BTreeSet;
@@ -61,9 +62,13 @@ fn what_the_programs_read_and_print() {
     assert_eq!(kept("crates/vectors/stdout"), printed().as_bytes());
 }
 
+fn formats() -> String {
+    String::from_utf8(kept("docs/FORMAT.md")).expect("text")
+}
+
 /// The bytes at the start of the lines below a head of docs/FORMAT.md.
 fn bytes_below(head: &str) -> Vec<u8> {
-    let format = String::from_utf8(kept("docs/FORMAT.md")).expect("text");
+    let format = formats();
     let (_, example) = format.split_once(head).expect("a head");
     let byte = |word: &str| match word.len() {
         2 => u8::from_str_radix(word, 16).ok(),
@@ -84,4 +89,36 @@ fn the_examples_of_the_formats() {
     let e = outcome(&encode(&trace_e()));
     let replay = Call::Replay.written(&e).expect("SER accepts");
     assert_eq!(bytes_below("\n### Example: a view that was lost\n"), replay);
+}
+
+/// A number as it stands in a text: 65,536.
+fn in_thousands(number: usize) -> String {
+    match (number / 1000, number % 1000) {
+        (0, rest) => rest.to_string(),
+        (thousands, rest) => format!("{thousands},{rest:03}"),
+    }
+}
+
+#[test]
+fn the_limits_of_the_formats() {
+    let (keys, clients) = (Store::MAX_KEYS, Store::MAX_CLIENTS);
+    let (commits, versions) = (Store::MAX_COMMITS, Store::MAX_COMMITS + 1);
+    let operations = Store::MAX_OPERATIONS;
+    let [least, most] = [Store::MIN_BYTES, Store::MAX_BYTES].map(in_thousands);
+    let [image, replay] = Call::ALL.map(|call| in_thousands(call.longest()));
+    let longest = format!("{commits} commits of {operations} operations over {keys} keys");
+    let formats = formats();
+    for due in [
+        format!("| keys | 1 to {keys} |\n"),
+        format!("| clients | 1 to {clients} |\n"),
+        format!("| commits | 0 to {commits}, so a key has at most {versions} versions |\n"),
+        format!("| file | {least} to {most} bytes |\n"),
+        format!("shorter than {least} bytes, longer than {most},"),
+        format!("a judged trace, at most {image} bytes."),
+        format!("the longest image has {image} bytes"),
+        format!("the longest replay has {replay} bytes"),
+        format!("The longest has {replay}: {longest}."),
+    ] {
+        assert_eq!(formats.matches(&due).count(), 1, "{due}");
+    }
 }

@@ -92,7 +92,7 @@ fn the_longest_input() {
     assert_eq!(full.len(), 65_536);
     let full_outcome = outcome(&full);
     let (report, _) = due(Call::Judge, &full_outcome);
-    assert!(report.starts_with(b"records 368 commits 63\n"));
+    assert!(report.starts_with(b"records 128 commits 63\n"));
     check("full", &full, &full_outcome);
     for more in [1, 2, 100, 65_536, 300_000] {
         let mut long = full.clone();
@@ -110,7 +110,7 @@ fn the_longest_replay() {
     let taken = outcome(&file);
     check("largest", &file, &taken);
     let (replay, _) = says(Call::Replay, &file, WHOLE);
-    assert_eq!(replay.len(), 33_276);
+    assert_eq!(replay.len(), Call::Replay.longest());
     let (report, _) = says(Call::Judge, &replay, WHOLE);
     let report = String::from_utf8(report).expect("text");
     assert!(report.starts_with("records 126 commits 63\n"));

@@ -3,7 +3,8 @@
 
 use model::buffer::LONG;
 use model::by_hand::{commit, read, shift, write};
-use model::trace::{encode, with_true_length, Record, Trace};
+use model::store::Store;
+use model::trace::{encode, with_true_length, Operation, Record, Trace};
 use model::{judge, judge_with_room, replay, Answer, Refusal, Replay, Report};
 
 fn file(keys: usize, clients: usize, records: &[Record]) -> Vec<u8> {
@@ -27,6 +28,70 @@ fn taken(file: &[u8]) -> (Report, Vec<u8>) {
         Answer::Judged(report) => (report, image[..report.image_len].to_vec()),
         Answer::Refused(refusal) => panic!("{refusal:?}"),
     }
+}
+
+/// Request E2: "Keys go from 16 to 32 in code 2; other limits stay."
+#[test]
+fn thirty_two_keys_and_sixteen_clients() {
+    for (keys, clients) in [(1, 1), (16, 16), (17, 16), (32, 16)] {
+        let (report, image) = taken(&file(keys, clients, &[]));
+        assert_eq!(report.image_len, 8 + keys * (4 + 16), "{keys} keys");
+        assert_eq!(usize::from(image[4]), keys);
+    }
+    for (keys, clients) in [
+        (0, 1),
+        (33, 1),
+        (255, 1),
+        (1, 0),
+        (1, 17),
+        (1, 32),
+        (32, 33),
+    ] {
+        let refusal = refused(&file(keys, clients, &[]));
+        assert_eq!(refusal, (2, 0, 0, 0), "{keys} keys, {clients} clients");
+    }
+}
+
+/// Request E2: "A commit may have 64 operations", a read and a write of each
+/// key. One more is out of order, and key 32 is none.
+#[test]
+fn sixty_four_operations() {
+    let mut operations: Vec<Operation> = (0..Store::MAX_KEYS)
+        .flat_map(|key| [read(key, 0), write(key, 1)])
+        .collect();
+    assert_eq!(operations.len(), 64);
+    let both: &[usize] = &[0, 1];
+    let held = [both; Store::MAX_KEYS];
+    let wide = |operations: &[Operation]| file(32, 1, &[commit(0, 0, operations, &held)]);
+    let (report, image) = taken(&wide(&operations));
+    assert_eq!(report.image_len, 8 + 8 + 32 * (4 + 2 * 16));
+    // Of the last key, version 0 is read by commit 1 and version 1 by none.
+    let last = &image[image.len() - 32..];
+    assert_eq!(last[8..16], [2, 0, 0, 0, 0, 0, 0, 0]);
+    assert_eq!(last[16..24], [1, 0, 0, 0, 1, 0, 0, 0]);
+    for more in [write(31, 1), read(32, 0)] {
+        operations.push(more);
+        assert_eq!(refused(&wide(&operations)), (7, 1, 0, 0));
+        operations.pop();
+    }
+}
+
+/// Codes and verdicts name the last key as any other.
+#[test]
+fn the_last_of_thirty_two_keys_is_named() {
+    let opening: &[usize] = &[0];
+    let mut held = [opening; Store::MAX_KEYS];
+    let wrong = commit(0, 0, &[read(31, 5)], &held);
+    assert_eq!(refused(&file(32, 2, &[wrong])), (13, 1, 31, 0));
+    let unseen = commit(1, 0, &[write(31, 2)], &held);
+    held[31] = &[0, 1];
+    let first = commit(0, 0, &[write(31, 1)], &held);
+    let (report, _) = taken(&file(32, 2, &[first.clone(), unseen]));
+    let text = model::report(&Answer::Judged(report));
+    assert!(text.ends_with("SER refused record 2 clause 8 key 31 version 1\n"));
+    held[31] = &[0, 2];
+    let unborn = shift(1, &held);
+    assert_eq!(refused(&file(32, 2, &[first, unborn])), (10, 2, 31, 0));
 }
 
 #[test]

@@ -1,10 +1,12 @@
-//! Do the generated traces tell a wrong reading of the clauses, or of the
-//! replay, from the right one? Each slip here is one of them read wrongly; some
-//! taken trace must get other verdicts by it, or another answer.
+//! Do the generated traces tell a wrong reading of the clauses, of the replay
+//! or of the limits from the right one? Each slip here is one of them read
+//! wrongly; some taken trace must get other verdicts by it, or another answer;
+//! some file must be read otherwise.
 
 use model::buffer::{pattern, LONG_FILE};
 use model::facts::taken;
-use model::generate::taken_case;
+use model::form::{read, read_within};
+use model::generate::{file, taken_case, FORMER_KEYS};
 use model::levels::{
     least_missing, missing, missing_before, place_of, verdicts, verdicts_by, Clauses,
 };
@@ -373,4 +375,53 @@ fn record_0(given: &Given, length: usize) -> Result<Vec<u8>, Refusal> {
 
 fn record_only(given: &Given, length: usize) -> Result<Vec<u8>, Refusal> {
     right(given, length).map_err(|refusal| Refusal::at(refusal.code, refusal.record))
+}
+
+/// A file as a trace, or a refusal of its form.
+type Reading = fn(&[u8]) -> Result<Trace, Refusal>;
+
+#[test]
+fn slips_of_the_limits_are_noticed() {
+    let slips: [(&str, Reading); 5] = [
+        ("16 keys at most", as_before),
+        ("33 keys too", one_key_more),
+        ("17 clients too", one_client_more),
+        ("as many clients as keys", clients_as_keys),
+        ("32 operations at most", operations_as_before),
+    ];
+    let files: Vec<Vec<u8>> = (0..TRACES).map(file).collect();
+    let noticed = slips.map(|(name, slip)| {
+        let other = files.iter().filter(|file| slip(file) != read(file));
+        (name, other.count())
+    });
+    println!("{} files", files.len());
+    all_noticed(&noticed);
+}
+
+fn as_before(file: &[u8]) -> Result<Trace, Refusal> {
+    read_within(file, FORMER_KEYS, Store::MAX_CLIENTS)
+}
+
+fn one_key_more(file: &[u8]) -> Result<Trace, Refusal> {
+    read_within(file, Store::MAX_KEYS + 1, Store::MAX_CLIENTS)
+}
+
+fn one_client_more(file: &[u8]) -> Result<Trace, Refusal> {
+    read_within(file, Store::MAX_KEYS, Store::MAX_CLIENTS + 1)
+}
+
+fn clients_as_keys(file: &[u8]) -> Result<Trace, Refusal> {
+    read_within(file, Store::MAX_KEYS, Store::MAX_KEYS)
+}
+
+fn operations_as_before(file: &[u8]) -> Result<Trace, Refusal> {
+    let trace = read(file)?;
+    let too_many = |record: &Record| match record {
+        Record::Shift { .. } => false,
+        Record::Commit { operations, .. } => operations.len() > 2 * FORMER_KEYS,
+    };
+    match trace.records.iter().position(too_many) {
+        Some(index) => Err(Refusal::at(7, index + 1)),
+        None => Ok(trace),
+    }
 }

@@ -4,13 +4,15 @@
 
 use model::beside::compare;
 use model::files::files;
-use model::generate::{exactly_full, record_places, taken_case};
+use model::generate::{exactly_full, record_places, taken_case, FORMER_KEYS};
 use model::random::Random;
-use model::trace::{encode, with_true_length};
+use model::store::Store;
+use model::trace::{commit_len, encode, with_true_length};
 use model::{outcome, Call};
 use std::collections::BTreeMap;
 
-/// The example traces, and so many taken traces of at most so many bytes.
+/// The example traces, and so many taken traces of at most so many bytes, some
+/// of them with more keys than a trace could have before.
 fn some_files(number: usize, bytes: usize) -> Vec<(String, Vec<u8>)> {
     let mut some: Vec<(String, Vec<u8>)> = files()
         .into_iter()
@@ -26,6 +28,8 @@ fn some_files(number: usize, bytes: usize) -> Vec<(String, Vec<u8>)> {
         })
         .filter(|(_, file)| file.len() <= bytes);
     some.extend(generated.take(number));
+    let wide = |file: &[u8]| usize::from(file[8]) > FORMER_KEYS;
+    assert!(some.iter().any(|(_, file)| wide(file)), "few keys");
     some
 }
 
@@ -62,7 +66,7 @@ impl Codes {
 #[test]
 fn every_truncation() {
     let mut codes = Codes::default();
-    for (name, file) in some_files(150, 2_000) {
+    for (name, file) in some_files(100, 2_000) {
         for length in 0..file.len() {
             let name = format!("{name} cut to {length}");
             let cut = file[..length].to_vec();
@@ -79,7 +83,7 @@ fn every_truncation() {
 #[test]
 fn every_number_of_records() {
     let mut codes = Codes::default();
-    for (name, file) in some_files(150, 2_000) {
+    for (name, file) in some_files(100, 2_000) {
         for (count, place) in record_places(&file).into_iter().enumerate() {
             let mut cut = file[..place].to_vec();
             cut[10..12].copy_from_slice(&(count as u16).to_le_bytes());
@@ -120,7 +124,7 @@ fn length_fields(file: &[u8]) -> Vec<(usize, usize)> {
 #[test]
 fn lying_lengths() {
     let mut codes = Codes::default();
-    for (name, file) in some_files(60, 1_000) {
+    for (name, file) in some_files(60, 2_000) {
         for (at, bytes) in length_fields(&file) {
             let mut field = [0; 8];
             field[..bytes].copy_from_slice(&file[at..at + bytes]);
@@ -134,7 +138,7 @@ fn lying_lengths() {
             }
         }
     }
-    codes.met("lying lengths", &[1, 2, 3, 4, 5, 7]);
+    codes.met("lying lengths", &[1, 2, 3, 4, 5, 7, 8]);
 }
 
 /// Numbers near to a number, and some far from it.
@@ -150,14 +154,14 @@ fn lies_about(truth: u64) -> Vec<u64> {
 #[test]
 fn lying_numbers_of_operations() {
     let mut codes = Codes::default();
-    for (name, file) in some_files(60, 1_000) {
+    for (name, file) in some_files(60, 2_000) {
         let keys = usize::from(file[8]);
         for place in record_places(&file) {
             if place + 10 > file.len() || file[place + 2] != 3 {
                 continue;
             }
-            for operations in (0..=40).chain([254, 255]) {
-                let length = 10 + 8 * operations + 8 * keys;
+            for operations in (0..=Store::MAX_OPERATIONS + 8).chain([254, 255]) {
+                let length = commit_len(operations, keys);
                 let mut lying = file.clone();
                 lying[place..place + 2].copy_from_slice(&(length as u16).to_le_bytes());
                 lying[place + 5] = operations as u8;
@@ -168,13 +172,13 @@ fn lying_numbers_of_operations() {
             }
         }
     }
-    codes.met("lying numbers of operations", &[1, 3, 4, 5, 7]);
+    codes.met("lying numbers of operations", &[1, 3, 4, 5, 7, 8]);
 }
 
 #[test]
 fn every_bit_flipped() {
     let mut codes = Codes::default();
-    for (name, mut file) in some_files(12, 500) {
+    for (name, mut file) in some_files(12, 1_000) {
         for place in 0..file.len() {
             for bit in 0..8 {
                 file[place] ^= 1 << bit;

@@ -1,9 +1,9 @@
 //! The replay of a trace: the trace is taken as it is for the judge, and its
 //! commits are written out with the views that the store has kept.
 
-use super::Judge;
+use super::{Judge, Workspace, NARROW};
 use crate::answer::{Refusal, Replay, Verdict};
-use crate::form::{Header, Reader, Record, Row};
+use crate::form::{self, Header, Reader, Record, Row};
 
 /// The bytes of a shift and of a commit without their operations and masks.
 const SHIFT: usize = 6;
@@ -14,14 +14,23 @@ impl Judge {
     /// changes; otherwise the replay stands at its start, and the bytes after
     /// it are as they were.
     pub fn replay(&mut self, trace: &[u8], buffer: &mut [u8]) -> Replay {
-        match self.try_replay(trace, buffer) {
+        let replayed = form::header(trace).and_then(|header| {
+            if header.keys <= NARROW {
+                self.narrow.replay(trace, &header, buffer)
+            } else {
+                self.wide.replay(trace, &header, buffer)
+            }
+        });
+        match replayed {
             Ok(length) => Replay::Written(length),
             Err(refusal) => Replay::Refused(refusal),
         }
     }
+}
 
-    fn try_replay(&mut self, trace: &[u8], buffer: &mut [u8]) -> Result<u32, Refusal> {
-        let header = self.take(trace)?;
+impl<const WIDTH: usize> Workspace<WIDTH> {
+    fn replay(&mut self, trace: &[u8], header: &Header, buffer: &mut [u8]) -> Result<u32, Refusal> {
+        self.take(trace, header)?;
         let [.., ser] = self.levels.verdicts;
         if let Verdict::Refused {
             record,
@@ -41,7 +50,7 @@ impl Judge {
         let Some(file) = buffer.get_mut(..length) else {
             return Err(Refusal::at(17, 0));
         };
-        self.write_replay(trace, &header, file);
+        self.write_replay(trace, header, file);
         Ok(length as u32)
     }
 
@@ -103,7 +112,7 @@ impl Judge {
 }
 
 /// The masks of a row, as many as there is room for.
-fn put_masks(bytes: &mut [u8], row: &Row) {
+fn put_masks<const WIDTH: usize>(bytes: &mut [u8], row: &Row<WIDTH>) {
     for (bytes, mask) in bytes.chunks_exact_mut(8).zip(row) {
         bytes.copy_from_slice(&mask.to_le_bytes());
     }

@@ -26,4 +26,4 @@ pub use report::{report, LONGEST_REPORT, REPORT_STACK};
 pub const LONGEST_FILE: usize = 65_536;
 
 /// No image is longer; a buffer of this length is never too short.
-pub const LONGEST_IMAGE: usize = 16_960;
+pub const LONGEST_IMAGE: usize = 33_408;

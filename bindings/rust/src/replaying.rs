@@ -13,13 +13,13 @@ pub enum Replay {
 }
 
 /// No replay is longer; a buffer of this length is never too short.
-pub const LONGEST_REPLAY: usize = 33_276;
+pub const LONGEST_REPLAY: usize = 65_532;
 
 /// The words of an answer of [`replay_words`].
 pub const REPLAY_WORDS: usize = 5;
 
 /// [`replay`] and [`replay_words`] take no more stack, in bytes.
-pub const REPLAY_STACK: usize = 32_768;
+pub const REPLAY_STACK: usize = 65_536;
 
 /// Writes the replay of a trace that SER accepts: a trace file with the same
 /// commits, each after a shift of its client to all that there is, and left

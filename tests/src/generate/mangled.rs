@@ -1,7 +1,7 @@
 //! Spoiled bytes: cut files, fields that lie, random bytes, flipped bits,
 //! records that are moved, and traces with random changes to what they say.
 
-use super::taken::{build, Style};
+use super::taken::{build, number_of_keys, Style};
 use super::Expected;
 use crate::form::u16_at;
 use crate::random::Random;
@@ -88,7 +88,8 @@ fn random_bytes(random: &mut Random) -> Vec<u8> {
     }
     file = with_true_length(file);
     if random.percent(80) {
-        let keys = random.between(1, 3) as u8;
+        let used = random.between(1, 3);
+        let keys = number_of_keys(random, used) as u8;
         let count = random.below(3) as u8;
         file[4..12].copy_from_slice(&[8, 0, 1, 0, keys, 2, count, 0]);
         // The kind of the first record too, so that its length is looked at.

@@ -6,7 +6,9 @@ use super::Expected;
 use crate::form::u16_at;
 use crate::random::Random;
 use crate::store::{newest, writers_in, Author, Key, Store, Version, View, OPENING};
-use crate::trace::{header_bytes, record_bytes, Operation, OperationKind, Record, Trace};
+use crate::trace::{
+    commit_len, header_bytes, record_bytes, Operation, OperationKind, Record, Trace,
+};
 use crate::Refusal;
 use std::collections::BTreeSet;
 
@@ -62,7 +64,7 @@ fn plant(random: &mut Random, codes: &[u8]) -> (Vec<u8>, Vec<Refusal>) {
                 keeping: vec![],
                 ..style
             };
-            style.keys = style.keys.min(3);
+            style.used = style.used.into_iter().take(3).collect();
             style.numbering = Numbering::WithGaps;
         } else if style.commits > 16 {
             continue;
@@ -481,11 +483,15 @@ fn plant_wrong_length(random: &mut Random, raw: &mut Raw) {
 }
 
 fn plant_wrong_header(random: &mut Random, raw: &mut Raw) {
-    match random.below(4) {
+    match random.below(6) {
         0 => raw.header[0] = random.pick(&[0, 7, 9, 12]),
         1 => raw.header[random.pick(&[1, 3])] = 1,
         2 => raw.header[2] = random.pick(&[0, 2, 3, 9]),
-        _ => raw.header[random.pick(&[4, 5])] = random.pick(&[0, 17, 32, 255]),
+        _ => {
+            let limits = [(4, Store::MAX_KEYS), (5, Store::MAX_CLIENTS)];
+            let (place, most) = random.pick(&limits);
+            raw.header[place] = random.pick(&[0, most + 1, most + 1, 2 * most, 255]) as u8;
+        }
     }
 }
 
@@ -524,7 +530,7 @@ fn plant_wrong_record_length(
             let record = &mut raw.records[last - 1];
             let operations = random.between(record[5] as usize + 1, 255);
             record[5] = operations as u8;
-            let length = (10 + 8 * operations + 8 * keys) as u16;
+            let length = commit_len(operations, keys) as u16;
             record[..2].copy_from_slice(&length.to_le_bytes());
             Some(Refusal::at(3, last))
         }

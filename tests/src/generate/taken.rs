@@ -10,8 +10,9 @@ use crate::relations::{
 use crate::store::{
     newest, opening_view, writers_in, Author, CommitNumber, Key, Store, View, OPENING,
 };
-use crate::trace::{Operation, OperationKind, Record, Trace};
+use crate::trace::{commit_len, shift_len, Operation, OperationKind, Record, Trace};
 use std::collections::BTreeSet;
+use std::rc::Rc;
 
 type Writers = BTreeSet<CommitNumber>;
 
@@ -57,6 +58,8 @@ pub enum Numbering {
 #[derive(Clone, Debug)]
 pub struct Style {
     pub keys: usize,
+    /// The keys that commits touch.
+    pub used: BTreeSet<Key>,
     pub clients: usize,
     pub commits: usize,
     /// Values written are below this.
@@ -76,8 +79,8 @@ pub struct Style {
     /// Commits without operations, and without writes.
     pub empty: usize,
     pub only_reads: usize,
-    /// Keys that a commit touches besides one that it always does; touched
-    /// keys that are written; written keys that are also read.
+    /// Used keys that a commit touches besides one that it always does;
+    /// touched keys that are written; written keys that are also read.
     pub touched: usize,
     pub written: usize,
     pub also_read: usize,
@@ -113,8 +116,11 @@ impl Style {
         if random.percent(70) {
             keeping.push(Written);
         }
+        let used = random.between(2, 5);
+        let keys = number_of_keys(random, used);
         Style {
-            keys: random.between(2, 5),
+            keys,
+            used: some_keys(random, used, keys).into_iter().collect(),
             clients: random.between(2, 6),
             commits: random.between(5, 14),
             seeing: Seeing::Each(random.pick(&[10, 20, 30])),
@@ -139,12 +145,13 @@ impl Style {
             93..=98 => random.between(17, 30),
             _ => random.between(31, Store::MAX_COMMITS),
         };
-        let keys = match random.below(100) {
+        let used = match random.below(100) {
             0..=9 => 1,
-            10..=79 => random.between(2, 4),
-            80..=94 => random.between(5, 8),
+            10..=74 => random.between(2, 4),
+            75..=89 => random.between(5, 8),
             _ => random.between(9, Store::MAX_KEYS),
         };
+        let keys = number_of_keys(random, used);
         let clients = match random.below(100) {
             0..=4 => 1,
             5..=79 => random.between(2, 5),
@@ -152,6 +159,7 @@ impl Style {
         };
         Style {
             keys,
+            used: some_keys(random, used, keys).into_iter().collect(),
             clients,
             commits,
             values: random.pick(&[1, 2, 3, 100, 1 << 32]),
@@ -177,6 +185,27 @@ impl Style {
     }
 }
 
+/// The most keys that a trace could have before request E2.
+pub const FORMER_KEYS: usize = 16;
+
+/// How many keys a trace has where so many are used: mostly more than it could
+/// have before, or just these.
+pub fn number_of_keys(random: &mut Random, used: usize) -> usize {
+    if random.percent(57) {
+        random.between(FORMER_KEYS + 1, Store::MAX_KEYS).max(used)
+    } else {
+        used
+    }
+}
+
+/// So many different ones of so many keys, in any order.
+fn some_keys(random: &mut Random, number: usize, keys: usize) -> Vec<Key> {
+    let mut left: Vec<Key> = (0..keys).map(Key).collect();
+    (0..number)
+        .map(|_| left.swap_remove(random.below(left.len())))
+        .collect()
+}
+
 /// Rules for a trace of so many commits.
 fn some_rules(random: &mut Random, commits: usize) -> Vec<Rule> {
     use Rule::*;
@@ -200,11 +229,12 @@ fn some_rules(random: &mut Random, commits: usize) -> Vec<Rule> {
     random.pick(rules).to_vec()
 }
 
-/// What a record meets: the store and each client's view.
+/// What a record meets: the store and each client's view. What did not change
+/// is shared with the states before.
 #[derive(Clone, Debug)]
 pub struct State {
-    pub store: Store,
-    pub views: Vec<View>,
+    pub store: Rc<Store>,
+    pub views: Vec<Rc<View>>,
 }
 
 /// A taken trace, and for each of its records the state that it meets.
@@ -216,20 +246,20 @@ pub struct Built {
 
 /// Makes a trace of the given style.
 pub fn build(random: &mut Random, style: &Style) -> Built {
-    let mut builder = Builder::new(style.keys, style.clients);
+    let mut builder = Builder::new(style.keys, style.clients, style.commits);
     for _ in 0..style.commits {
         while random.percent(style.idle) {
             let client = random.below(style.clients);
             let unseen = builder.unseen(client);
             let more = unseen.into_iter().filter(|_| random.percent(20)).collect();
-            builder.shift(client, more);
+            builder.needless_shift(client, more);
         }
         let client = random.below(style.clients);
         builder.styled_commit(random, style, client);
     }
     if random.percent(style.idle) {
         let client = random.below(style.clients);
-        builder.shift(client, builder.unseen(client));
+        builder.needless_shift(client, builder.unseen(client));
     }
     builder.built()
 }
@@ -248,22 +278,27 @@ enum Link {
 /// must hold the first is what the clauses are about.
 pub fn build_path(random: &mut Random) -> Built {
     let path = Path::random(random);
-    let (keys, observer) = (path.keys.len(), path.links.len() + 1);
-    let mut builder = Builder::new(keys, observer + 1);
+    let observer = path.links.len() + 1;
+    let more = if random.percent(30) {
+        random.between(1, 4)
+    } else {
+        0
+    };
+    let commits = path.clients.len() + 1 + more;
+    let mut builder = Builder::new(path.keys, observer + 1, commits);
     let last = path.commits(random, &mut builder);
     path.observed(random, &mut builder, observer, last);
 
     // And something more, now and then.
-    if random.percent(30) {
-        let style = Style {
-            keys,
-            clients: observer + 1,
-            ..Style::random(random)
-        };
-        for _ in 0..random.between(1, 4) {
-            let client = random.below(style.clients);
-            builder.styled_commit(random, &style, client);
-        }
+    let style = Style {
+        keys: path.keys,
+        used: path.used.iter().copied().collect(),
+        clients: observer + 1,
+        ..Style::random(random)
+    };
+    for _ in 0..more {
+        let client = random.below(style.clients);
+        builder.styled_commit(random, &style, client);
     }
     builder.built()
 }
@@ -271,9 +306,11 @@ pub fn build_path(random: &mut Random) -> Built {
 /// A path of links, and for each commit on it the client and the accesses.
 struct Path {
     links: Vec<Link>,
+    /// How many keys there are.
+    keys: usize,
     /// One key for each link, one for a write of the first commit and one for
     /// a write of the last; now and then a key is used twice.
-    keys: Vec<Key>,
+    used: Vec<Key>,
     clients: Vec<usize>,
     accesses: Vec<BTreeSet<(Key, OperationKind)>>,
 }
@@ -285,18 +322,19 @@ impl Path {
         let links: Vec<Link> = (0..random.between(1, 5))
             .map(|_| random.pick(&kinds))
             .collect();
-        let mut keys: Vec<Key> = (0..links.len() + 2).map(Key).collect();
-        for place in 0..keys.len() {
-            keys.swap(place, random.below(links.len() + 2));
+        let keys = number_of_keys(random, links.len() + 2);
+        let mut used = some_keys(random, links.len() + 2, keys);
+        for place in 0..used.len() {
             if random.percent(5) {
-                keys[place] = keys[0];
+                used[place] = used[0];
             }
         }
         let clients = clients_along(random, &links);
-        let accesses = accesses_along(random, &links, &keys);
+        let accesses = accesses_along(random, &links, &used);
         Path {
             links,
             keys,
+            used,
             clients,
             accesses,
         }
@@ -365,8 +403,8 @@ impl Path {
         ]);
         let read = match random.below(3) {
             0 => None,
-            1 => self.keys.last().copied(),
-            _ => Some(Key(random.below(self.keys.len()))),
+            1 => self.used.last().copied(),
+            _ => Some(random.pick(&self.used)),
         };
         let accesses = read.map(|key| (key, OperationKind::Read));
         let accesses = accesses.into_iter().collect();
@@ -412,13 +450,14 @@ fn accesses_along(
     for accesses in &mut accesses {
         if accesses.is_empty() {
             // Between two SO links.
-            accesses.insert((Key(random.below(keys.len())), OperationKind::Read));
+            accesses.insert((random.pick(keys), OperationKind::Read));
         }
     }
     accesses
 }
 
-/// 63 commits of 32 operations by 16 clients on 16 keys, and their shifts.
+/// As many commits, clients, keys and operations of each commit as there may
+/// be, and their shifts.
 pub fn largest(random: &mut Random) -> Built {
     let style = largest_style(random);
     build(random, &style)
@@ -436,6 +475,7 @@ pub fn largest_serial(random: &mut Random) -> Built {
 fn largest_style(random: &mut Random) -> Style {
     Style {
         keys: Store::MAX_KEYS,
+        used: (0..Store::MAX_KEYS).map(Key).collect(),
         clients: Store::MAX_CLIENTS,
         commits: Store::MAX_COMMITS,
         values: 1 << 32,
@@ -465,11 +505,12 @@ fn largest_style(random: &mut Random) -> Style {
     }
 }
 
-/// A trace whose file has exactly 65,536 bytes: 63 commits with 1,995
-/// operations together, and 305 shifts.
+/// A trace whose file has exactly 65,536 bytes: 63 commits over 32 keys, as many
+/// operations as there is room for, and the fewest shifts that fill the rest.
 pub fn exactly_full(random: &mut Random) -> Built {
-    let (shifts, mut spare) = (305, 63 * 32 - 1995);
-    let mut builder = Builder::new(Store::MAX_KEYS, Store::MAX_CLIENTS);
+    let (shifts, operations) = filling();
+    let mut spare = Store::MAX_COMMITS * Store::MAX_OPERATIONS - operations;
+    let mut builder = Builder::new(Store::MAX_KEYS, Store::MAX_CLIENTS, Store::MAX_COMMITS);
     let mut shifted = 0;
     for commit in 1..=Store::MAX_COMMITS {
         while shifted < shifts * commit / Store::MAX_COMMITS {
@@ -500,18 +541,39 @@ pub fn exactly_full(random: &mut Random) -> Built {
     builder.built()
 }
 
+/// The shifts and the operations of a full file.
+fn filling() -> (usize, usize) {
+    let empty = commit_len(0, Store::MAX_KEYS);
+    let room = Store::MAX_BYTES - Store::MIN_BYTES - Store::MAX_COMMITS * empty;
+    let most = Store::MAX_COMMITS * Store::MAX_OPERATIONS;
+    let filled = |shifts| {
+        let left = room - shifts * shift_len(Store::MAX_KEYS);
+        let operations = left / 8;
+        (8 * operations == left && operations <= most).then_some((shifts, operations))
+    };
+    let found = (0..room / shift_len(Store::MAX_KEYS)).find_map(filled);
+    found.expect("shifts and operations that fill a file")
+}
+
 /// The trace so far, with the state after its last record.
 struct Builder {
     trace: Trace,
     states: Vec<State>,
     state: State,
+    /// How many shifts there is room for in the file, beyond one before each
+    /// commit, were all its commits as long as they can be.
+    spare_shifts: usize,
 }
 
 impl Builder {
-    fn new(keys: usize, clients: usize) -> Builder {
+    /// For a trace of so many commits, and one more that a fault may add.
+    fn new(keys: usize, clients: usize, commits: usize) -> Builder {
+        let longest = shift_len(keys) + commit_len(2 * keys, keys);
+        let needed = Store::MIN_BYTES + (commits + 1) * longest;
+        let view = Rc::new(opening_view(keys));
         let state = State {
-            store: Store::opening(keys),
-            views: vec![opening_view(keys); clients],
+            store: Rc::new(Store::opening(keys)),
+            views: vec![view; clients],
         };
         let trace = Trace {
             keys,
@@ -522,6 +584,7 @@ impl Builder {
             trace,
             states: Vec::new(),
             state,
+            spare_shifts: Store::MAX_BYTES.saturating_sub(needed) / shift_len(keys),
         }
     }
 
@@ -557,7 +620,16 @@ impl Builder {
             client,
             view: view.clone(),
         });
-        self.state.views[client] = view;
+        self.state.views[client] = Rc::new(view);
+    }
+
+    /// A shift without which the next commit could be made as well, if there is
+    /// room for it.
+    fn needless_shift(&mut self, client: usize, more: Writers) {
+        if self.spare_shifts > 0 {
+            self.spare_shifts -= 1;
+            self.shift(client, more);
+        }
     }
 
     /// A commit whose view after holds the given writers.
@@ -573,8 +645,8 @@ impl Builder {
             operations,
             after: view.clone(),
         });
-        self.state.store = store;
-        self.state.views[client] = view;
+        self.state.store = Rc::new(store);
+        self.state.views[client] = Rc::new(view);
     }
 
     /// Gives reads the value that they must have, and writes a new one.
@@ -648,7 +720,7 @@ impl Builder {
                     .filter(|_| random.percent(50))
                     .copied()
                     .collect();
-                self.shift(client, part);
+                self.needless_shift(client, part);
             }
             self.shift(client, writers.clone());
         }
@@ -813,9 +885,10 @@ fn accesses(random: &mut Random, style: &Style) -> Vec<(OperationKind, Key)> {
         return accesses;
     }
     let only_reads = random.percent(style.only_reads);
-    let always = random.below(style.keys);
-    for key in (0..style.keys).map(Key) {
-        if key.0 == always || random.percent(style.touched) {
+    let used = Vec::from_iter(style.used.iter().copied());
+    let always = random.pick(&used);
+    for key in used {
+        if key == always || random.percent(style.touched) {
             let writes = !only_reads && random.percent(style.written);
             if !writes || random.percent(style.also_read) {
                 accesses.push((OperationKind::Read, key));
