@@ -8,7 +8,7 @@ use std::time::Instant;
 
 use bench::contender::{check, contenders, Contender, Timed, JUDGE, REPLAY, TAKING};
 use bench::form::COMMITS;
-use bench::traces::{describe, timed, Style, Trace, NUMBER};
+use bench::traces::{asking, describe, timed, Style, Trace, NUMBER};
 
 /// Numbers of keys of the traces with a table of their own.
 const KEYS: [usize; 2] = [16, 32];
@@ -234,6 +234,38 @@ fn print_replay(contenders: &mut [Box<dyn Contender>], mut traces: Vec<Trace>) {
     }
 }
 
+/// The judge on traces that ask much of the paths of links.
+fn print_asking(contenders: &mut [Box<dyn Contender>]) {
+    let sizes = KEYS.map(|keys| asking(NUMBER / 2, COMMITS, keys));
+    for traces in &sizes {
+        check(contenders, &JUDGE, traces);
+    }
+    let times = time_each(
+        contenders,
+        sizes.each_ref().map(|traces| (&JUDGE, &traces[..])),
+    );
+    for ((keys, traces), times) in KEYS.into_iter().zip(&sizes).zip(&times) {
+        println!(
+            "\npaths of links, CP and SI accepted, {keys} keys: {}",
+            describe(traces)
+        );
+        print!("{:<12} {:>10}", "", "");
+        for contender in contenders.iter() {
+            print!(" {:>9}", contender.name());
+        }
+        println!("{}", "     ratio".repeat(contenders.len() - 1));
+        for style in Style::ASKING {
+            let places: Vec<usize> = (0..traces.len())
+                .filter(|&place| traces[place].style == style)
+                .collect();
+            for way in Way::ALL {
+                let means: Vec<f64> = times.iter().map(|times| times.of(way, &places)).collect();
+                print_row(style.name(), way, &means);
+            }
+        }
+    }
+}
+
 /// The time of each contender, and the ratios to the first.
 fn print_row(name: &str, way: Way, times: &[f64]) {
     print!("{name:<12} {:>10}", way.name());
@@ -306,6 +338,7 @@ fn main() {
     print_judge(&mut contenders, [&long, &wide]);
     drop(wide);
     print_replay(&mut contenders, long);
+    print_asking(&mut contenders);
     if std::env::args().any(|argument| argument == "--short") {
         return;
     }

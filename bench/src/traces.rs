@@ -4,7 +4,11 @@
 //! of snapshots (a view is what some number of commits left, with the client's
 //! own versions if it commits again without a shift), one fifth is wild (any
 //! growing views, and some odd views after a commit). All of them are taken.
+//!
+//! Beside these there are traces that ask much of the paths of links: CP and SI
+//! accept them to the end, while nearly every view is behind the store.
 
+use crate::form::COMMITS;
 use model::random::Random;
 use std::collections::HashMap;
 
@@ -16,16 +20,27 @@ pub enum Style {
     Serial,
     Snapshot,
     Wild,
+    /// A view is what some number of commits left, the client's own among them,
+    /// and only keys are written of which it holds every version.
+    Isolated,
+    /// The same with views close behind the store; each commit reads what the
+    /// one before it wrote, and writes the next key.
+    Chained,
 }
 
 impl Style {
     pub const ALL: [Style; 3] = [Style::Serial, Style::Snapshot, Style::Wild];
+
+    /// Those of the traces that ask much of the paths of links.
+    pub const ASKING: [Style; 2] = [Style::Isolated, Style::Chained];
 
     pub fn name(self) -> &'static str {
         match self {
             Style::Serial => "serial",
             Style::Snapshot => "snapshot",
             Style::Wild => "wild",
+            Style::Isolated => "isolated",
+            Style::Chained => "chained",
         }
     }
 
@@ -53,6 +68,15 @@ pub const NUMBER: usize = 1_000;
 /// The traces of so many commits over so many keys that are timed.
 pub fn timed(commits: usize, keys: usize) -> Vec<Trace> {
     traces(1, NUMBER, commits, keys)
+}
+
+/// Traces that ask much of the paths of links, so many of each style.
+pub fn asking(number: usize, commits: usize, keys: usize) -> Vec<Trace> {
+    let mut random = Random::seeded(2);
+    let styles = (0..number).flat_map(|_| Style::ASKING);
+    styles
+        .map(|style| Maker::new(Random::seeded(random.word()), style, keys).trace(commits))
+        .collect()
 }
 
 /// Traces of so many commits over so many keys, by 16 clients. The file is long
@@ -158,6 +182,16 @@ impl Maker {
                 client.held[..=last].fill(true);
                 client.least = last;
             }
+            Style::Isolated | Style::Chained => {
+                let behind = match self.style {
+                    Style::Chained => 3,
+                    _ => COMMITS,
+                };
+                let least = client.least.max((now + 1).saturating_sub(behind));
+                let last = least + self.random.below(now + 1 - least);
+                client.held[..=last].fill(true);
+                client.least = last;
+            }
             Style::Wild => {
                 if !self.random.percent(80) {
                     return;
@@ -183,12 +217,13 @@ impl Maker {
         let mut touched = vec![false; self.keys];
         let mut wrote = Vec::new();
         for key in 0..self.keys {
-            if self.random.percent(45) {
+            if self.reads(me, key) {
                 let newest = 63 - view[key].leading_zeros() as usize;
                 operations.push((0u8, key, self.versions[key][newest].0));
                 touched[key] = true;
             }
-            if self.random.percent(45) {
+            let whole = view[key].count_ones() as usize == self.versions[key].len();
+            if self.writes(me, key, whole) {
                 let value = self.random.word() as u32;
                 operations.push((1u8, key, value));
                 touched[key] = true;
@@ -221,6 +256,23 @@ impl Maker {
         self.clients[number] = client;
         self.operation_count += operations.len();
         self.record(3, &head, &operations, &after);
+    }
+
+    /// Whether a commit reads this key.
+    fn reads(&mut self, commit: usize, key: usize) -> bool {
+        match self.style {
+            Style::Chained => key == (commit - 1) % self.keys,
+            _ => self.random.percent(45),
+        }
+    }
+
+    /// Whether it writes the key, of which its view holds every version or not.
+    fn writes(&mut self, commit: usize, key: usize, whole: bool) -> bool {
+        match self.style {
+            Style::Chained => whole && key == commit % self.keys,
+            Style::Isolated => whole && self.random.percent(45),
+            _ => self.random.percent(45),
+        }
     }
 
     /// The masks of a view that holds these commits.
@@ -260,7 +312,8 @@ pub fn describe(traces: &[Trace]) -> String {
     }
     let styles: Vec<String> = Style::ALL
         .iter()
-        .map(|style| format!("{} {}", styles.get(style).unwrap_or(&0), style.name()))
+        .chain(&Style::ASKING)
+        .filter_map(|style| Some(format!("{} {}", styles.get(style)?, style.name())))
         .collect();
     format!(
         "{} traces ({}); mean: {:.0} bytes, {:.0} records, {:.0} operations",

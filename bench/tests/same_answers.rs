@@ -2,9 +2,10 @@
 //! same bytes in the lent buffer, of each call.
 
 use bench::form::COMMITS;
-use bench::traces::{describe, timed, traces, Trace};
+use bench::traces::{asking, describe, timed, traces, Trace};
 use bench::Judge;
 use model::buffer::{pattern, untouched, LONG};
+use model::facts::accepts;
 use model::met::Met;
 use model::{outcome, Answer, Call, Outcome, Replay, Verdict};
 use std::collections::BTreeMap;
@@ -209,4 +210,22 @@ fn spoiled_traces() {
     let met: Vec<u8> = codes.into_keys().collect();
     let due = [0, 1, 2, 3, 4, 5, 6, 7, 9, 10, 11, 12, 13, 14];
     assert_eq!(met, due, "the codes met");
+}
+
+/// The traces that ask much of the paths of links do so to their end: CP and SI
+/// accept them, and SER, which wants a whole view, does not.
+#[test]
+fn asking_traces() {
+    let mut judge = Judge::new();
+    for keys in [4, 16, 32] {
+        for (number, trace) in asking(3, COMMITS, keys).iter().enumerate() {
+            compare_all(&mut judge, &trace.bytes, &format!("trace {number}"));
+            let taken = outcome(&trace.bytes).expect("a trace that is taken");
+            let accepts = |level| accepts(&taken.report, level);
+            assert!(
+                accepts("CP") && accepts("SI") && !accepts("SER"),
+                "{number}"
+            );
+        }
+    }
 }

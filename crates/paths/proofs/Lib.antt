@@ -1,4 +1,5 @@
 pub mod Walked
+pub mod Swept
 pub mod Joined
 pub mod Added
 pub mod Kept

@@ -5,6 +5,8 @@ use state::CommitNumber;
 ghost use mathlib.Core.Path.{_≡_};
 ghost use mathlib.Core.List.{List};
 ghost use Prim.Native.Nat.{ℕ, _*_, _<_, _≤_};
+ghost use lib.Dec.{T};
+ghost use Rattle.sets.specs.Set.{has, below};
 ghost use Rattle.store.specs.Limits.{maxKeys, numbers};
 ghost use Rattle.store.specs.Store.{Store, View, Commit, nextNumber};
 ghost use Rattle.store.specs.Update.{update};
@@ -42,15 +44,61 @@ pub struct Leads {
     pub snapshot: u64,
 }
 
+// The numbers below the answer are all in the set. That it is the most is not said: only speed hangs on that.
+fn run_length(set: u64) -> usize
+    ensures { λ r. ⌜ (r ≤ numbers) × ((i : ℕ) → i < r → T (has set i)) ⌝ }
+{
+    let absent = sets::without(0xffff_ffff_ffff_ffff, set);
+    if absent == 0 {
+        return store::Store::NUMBERS;
+    }
+    sets::lowest(absent)
+}
+
+// The rows of the numbers below n, of clause 6 and of clause 7.
+fn sweep(links: &[u64], n: usize) -> Leads
+    requires { ⌜ LinksRoom (now links) × (n ≤ numbers) ⌝ }
+    ensures { λ r. ⌜ IsSet (r .prefix) (InRows (now (links .entry)) 0 (below n)) × IsSet (r .snapshot) (InRows (now (links .entry)) numbers (below n)) ⌝ }
+{
+    let mut prefix = 0u64;
+    let mut snapshot = 0u64;
+    let mut t = 0usize;
+    while t < n {
+        prefix = sets::union(prefix, links[t]);
+        snapshot = sets::union(snapshot, links[state::SNAPSHOT_LINKS + t]);
+        t += 1;
+    }
+    Leads { prefix, snapshot }
+}
+
+// The rows of the members of a set, of clause 6 and of clause 7: those of the run that it begins with in one sweep, as they stand one behind
+// the other, and the others one by one. The set is nearly always a run and a few more.
+fn rows_of(links: &[u64], set: u64) -> Leads
+    requires { ⌜ LinksRoom (now links) ⌝ }
+    ensures { λ r. ⌜ IsSet (r .prefix) (InRows (now (links .entry)) 0 set) × IsSet (r .snapshot) (InRows (now (links .entry)) numbers set) ⌝ }
+{
+    let n = run_length(set);
+    let run = sweep(links, n);
+    let others = state::gather_two(
+        links,
+        0,
+        state::SNAPSHOT_LINKS,
+        sets::without(set, sets::below(n)),
+    );
+    let prefix = sets::union(run.prefix, others.first);
+    let snapshot = sets::union(run.snapshot, others.second);
+    Leads { prefix, snapshot }
+}
+
 // The commits that lead to a member of the set by one or more steps, of clause 6 and of clause 7. The rows of the set itself, which is
 // most of the work, are taken for both at once.
 pub fn leading(links: &[u64], set: u64) -> Leads
     requires { ⌜ LinksRoom (now links) ⌝ }
     ensures { λ r. ⌜ ((s : Store) → KeepsLinks s (now (links .entry)) → IsSet (r .prefix) (LeadsInto 0 s set) × IsSet (r .snapshot) (LeadsInto 1 s set)) ⌝ }
 {
-    let rows = state::gather_two(links, 0, state::SNAPSHOT_LINKS, set);
-    let prefix = walk(links, 0, set, rows.first);
-    let snapshot = walk(links, 1, set, rows.second);
+    let rows = rows_of(links, set);
+    let prefix = walk(links, 0, set, rows.prefix);
+    let snapshot = walk(links, 1, set, rows.snapshot);
     Leads { prefix, snapshot }
 }
 
