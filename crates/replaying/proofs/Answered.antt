@@ -1,18 +1,19 @@
 -- What the definitions answer in each of the cases that the call comes to. Assumes nothing.
 use Prim.Native.Nat.{ℕ, _+_, _*_, _≤_, _<_}
-use mathlib.Core.Path.{_≡_, refl, sym, ap, _∙_, subst}
+use mathlib.Core.Path.{_≡_, refl, sym, ap, _∙_}
 use mathlib.Core.Option.{Option, some, none}
-use mathlib.Core.List.{List, _++_}
+use mathlib.Core.List.{List}
 use native.Mathlib.Omega.{arith}
 use lib.ListN.{length, getD}
 use Rattle.search.specs.Choose.{mapSome}
+use Rattle.search.proofs.Tests.{some-none, map-none}
 use Rattle.endian.specs.Endian.{putAt}
 use Rattle.endian.proofs.Put.{put-next}
 use Rattle.store.specs.Limits.{minBytes}
 use Rattle.store.specs.Store.{openingStore, opening}
 use Rattle.store.specs.Refusal.{Refusal, refuse, refusePlace}
 use Rattle.store.proofs.Run.{final-commits}
-use Rattle.trace.specs.Result.{Result, refused, taken, onTaken}
+use Rattle.trace.specs.Result.{refused, taken, onTaken}
 use Rattle.trace.specs.Format.{Trace, decode}
 use Rattle.trace.specs.Encode.{eventsBytes, fileHead, encode}
 use Rattle.trace.specs.Meaning.{WholeFile}
@@ -22,7 +23,6 @@ use Rattle.levels.specs.Level.{Level, SER, Failure}
 use Rattle.answer.specs.Output.{Output, answerIn}
 use Rattle.answer.specs.Answer.{finalStore, accept, verdict}
 use Rattle.answer.specs.Replay.{replayTrace, replay}
-use Rattle.answer.specs.Demand3.{Accepts}
 use Rattle.answer.specs.Written.{notSerial, written, replayAnswer}
 use Rattle.answer.proofs.Output.{Ends, ends-refused, ends-short, ends-written}
 use Rattle.answer.proofs.Written.{serial-written, not-serial}
@@ -35,14 +35,10 @@ use Rattle.replaying.proofs.Standing.{only-trace}
 
 -- ---- the verdict that was told
 
-told-accepted : (o : Option Failure) → none ≡ mapSome tell o → o ≡ none
-unfolding mapSome
-told-accepted none e = refl
-told-accepted (some f) e = let z : _≡_ {A = ℕ} 0 1 = cc in absurd (omega arith)
-
+-- a failure that was told is one that there is
 told-refused : (o : Option Failure) (x : Told) → some x ≡ mapSome tell o → (f : Failure) × (o ≡ some f) × (x ≡ tell f)
 unfolding mapSome
-told-refused none x e = let z : _≡_ {A = ℕ} 0 1 = cc in absurd (omega arith)
+told-refused none x e = some-none e
 told-refused (some f) x e = let same : x ≡ tell f = cc in (f, refl, same)
 
 -- SER is the last of the levels
@@ -88,7 +84,7 @@ module _ (bytes buffer : List ℕ) where
 
       serial : written bytes ≡ taken output
       unfolding written onTaken
-      serial = rw e (serial-written t (told-accepted (verdict SER t) told))
+      serial = rw e (serial-written t (map-none tell (verdict SER t) .0 (sym told)))
 
       -- code 17, where the buffer is too short
       pub short-replay : length buffer < length (replay t) → Ends 17 (written bytes) buffer (refused (refuse 17 0)) buffer

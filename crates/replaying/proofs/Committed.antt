@@ -2,7 +2,6 @@
 use Prim.Native.Nat.{ℕ, _+_, _≤_}
 use mathlib.Core.Path.{_≡_, sym, ap, _∙_}
 use mathlib.Core.List.{List, _++_, append-nil}
-use native.Mathlib.Omega.{arith}
 use lib.ListN.{length}
 use Rattle.endian.specs.Endian.{putAt}
 use Rattle.endian.proofs.Put.{put-none, put-next}
@@ -18,6 +17,7 @@ use Rattle.trace.proofs.Sizes.{length-eventBytes}
 use Rattle.answer.specs.Replay.{fullShift, fullCommit, replayStep}
 use Rattle.replaying.specs.Full.{Full, Wrote}
 
+-- the shift and then the commit are what the replay has for a commit
 pub put-both : (n : ℕ) (r : Configuration) (c : Commit) (d : List ℕ) (at : ℕ) {next : ℕ} {one two : List ℕ} → next ≡ at + shiftLength n → next ≤ length d
     → one ≡ putAt d at (eventBytes n (fullShift r c)) → two ≡ putAt one next (eventBytes n (commit (fullCommit r c)))
     → two ≡ putAt d at (eventsBytes n (replayStep r (commit c)))

@@ -1,6 +1,6 @@
 -- The masks of a full view: those of the opening store, and how a commit's replay changes them. Assumes nothing.
 use Prim.Native.Nat.{ℕ, suc, _+_, _*_, _-_, _^_, _≤_, _<_}
-use mathlib.Core.Path.{_≡_, refl, sym, ap, _∙_, subst}
+use mathlib.Core.Path.{_≡_, sym, ap, _∙_, subst}
 use mathlib.Core.Bool.{not}
 use mathlib.Core.List.{List, [], _∷_}
 use native.Mathlib.Omega.{arith}
@@ -8,9 +8,9 @@ use native.Mathlib.Nat.{pow-suc, zero-add}
 use lib.Dec.{T, ltb, lt→ltb}
 use lib.ListN.{length, getD, replicate, getD-replicate}
 use lib.Pow.{pow-mono, pow-pos}
-use Rattle.search.specs.Choose.{choose, isSome, when}
+use Rattle.search.specs.Choose.{isSome, when}
 use Rattle.search.proofs.Choose.{choose-yes, choose-ind, isSome-when}
-use Rattle.search.proofs.Tests.{not-is}
+use Rattle.search.proofs.Tests.{same, not-is}
 use Rattle.sets.specs.Set.{Set, has, below}
 use Rattle.sets.proofs.Laws.{below-small}
 use Rattle.store.specs.Limits.{maxKeys, maxCommits}
@@ -21,11 +21,12 @@ use Rattle.answer.specs.Replay.{fullView, fullShift, fullCommit, replayStep}
 use Rattle.state.specs.Rows.{RowAt}
 use Rattle.replaying.specs.Full.{Full, grownMask}
 
--- one number more
+-- all numbers below n, and n itself: twice as many and one
 below-suc : (n : ℕ) → below (suc n) ≡ 2 * below n + 1
 below-suc n = let p = pow-suc 2 n in let q = pow-pos n in omega arith
 
 module _ (s : Store) (n : ℕ) (masks : List ℕ) (f : Full s n masks) where
+  -- the mask of a key holds all its versions
   mask-is : (k : Key) → k < n → getD masks k 0 ≡ below (count s k)
   mask-is k l = ap (λ (i : ℕ). getD masks i 0) (sym (zero-add k)) ∙ f .row k l
 
@@ -57,6 +58,7 @@ module _ (r : Configuration) (c : Commit) where
   module _ (n : ℕ) (masks : List ℕ) (f : Full (r .store) n masks) (ranks : Set) (values : ℕ → Value)
       (sorted : (k : Key) → valueOf write (c .operations) k ≡ when (has ranks (2 * k + 1)) (values k))
       (after : List ℕ) (grown : (k : Key) → k < n → getD after k 0 ≡ grownMask ranks k (getD masks k 0)) where
+    -- the commit writes the keys whose ranks say so
     written : (k : Key) → writes c k ≡ has ranks (2 * k + 1)
     written k = ap isSome (sorted k) ∙ isSome-when (has ranks (2 * k + 1)) (values k)
 
@@ -73,7 +75,7 @@ module _ (r : Configuration) (c : Commit) where
         not-written : T (not (has ranks (2 * k + 1))) → getD masks k 0 ≡ fullView made k
         not-written t =
             mask-is (r .store) n masks f k l
-            ∙ ap below (sym (count-unwritten (r .store) seen (fullCommit r c) k (λ w. not-is (has ranks (2 * k + 1)) (λ x. x, λ x. x) .0 t (subst T (written k) w))))
+            ∙ ap below (sym (count-unwritten (r .store) seen (fullCommit r c) k (λ w. not-is (has ranks (2 * k + 1)) same .0 t (subst T (written k) w))))
 
     -- the masks are those of the full view after
     pub full-after : Full made n after

@@ -1,6 +1,6 @@
 -- A turn of the loop that grows the masks of a full view. Assumes nothing.
 use Prim.Native.Nat.{ℕ, zero, suc, _+_, _*_, _≤_, _<_}
-use mathlib.Core.Path.{_≡_, refl, sym, ap, _∙_}
+use mathlib.Core.Path.{_≡_, refl, ap, _∙_}
 use mathlib.Core.Logic.{_≢_}
 use mathlib.Core.List.{List}
 use native.Mathlib.Omega.{arith}
@@ -37,12 +37,13 @@ module _ {start : List ℕ} {ranks : Set} {k : ℕ} {masks : List ℕ} (g : Grow
 
 -- ---- one mask
 
--- a number below two times another, and that one more
+-- m + 1, or nothing, is at most m + 1
 pub product : (w m : ℕ) → w < 2 → w * (m + 1) ≤ m + 1
 product zero m l = omega arith
 product (suc zero) m l = omega arith
 product (suc (suc w)) m l = absurd (omega arith)
 
+-- a mask, and where w is 1 as much again and one
 pub next-mask : (w m : ℕ) → w < 2 → m + w * (m + 1) ≡ choose (eqb w 1) (2 * m + 1) m
 unfolding choose
 next-mask zero m l = omega arith

@@ -1,7 +1,7 @@
 -- Where the writing of a replay, and the reckoning of its length, stand before a record: how they begin, go on and end. Assumes nothing.
 use Prim.Native.Nat.{ℕ, _+_, _-_, _≤_, _<_}
-use mathlib.Core.Path.{_≡_, refl, sym, ap, _∙_, subst}
-use mathlib.Core.List.{List, [], _++_}
+use mathlib.Core.Path.{_≡_, sym, ap, _∙_, subst}
+use mathlib.Core.List.{List, []}
 use native.Mathlib.Omega.{arith}
 use lib.ListN.{length, replicate}
 use Rattle.endian.specs.Endian.{Bytes, putAt}
@@ -11,9 +11,9 @@ use Rattle.store.specs.Store.{Configuration, openingStore, opening, Event}
 use Rattle.store.specs.Update.{final}
 use Rattle.trace.specs.Result.{taken}
 use Rattle.trace.specs.Entry.{event}
-use Rattle.trace.specs.Format.{Trace, traceOf, decode}
+use Rattle.trace.specs.Format.{Trace, decode}
 use Rattle.trace.specs.Encode.{eventsBytes}
-use Rattle.trace.specs.Meaning.{entryOf, RecordSays, InFormAt, headerOf, WholeFile}
+use Rattle.trace.specs.Meaning.{entryOf, RecordSays, InFormAt, WholeFile}
 use Rattle.trace.specs.declared.form.Header.{Header}
 use Rattle.trace.specs.declared.records.Record.{Record}
 use Rattle.trace.specs.declared.records.Reading.the-variants.{Whole}
@@ -22,14 +22,12 @@ use Rattle.trace.proofs.Sizes.{eventsLength, length-eventsBytes, length-encode}
 use Rattle.trace.proofs.Decoded.{decoded-well-formed}
 use Rattle.answer.specs.Replay.{replayStep, replayEvents, replayTrace, replay}
 use Rattle.answer.proofs.ReplayFile.{replay-longest}
+use Rattle.taking.proofs.InForm.{traceIn}
 use Rattle.replaying.specs.Full.{Full, Wrote, replayLength}
 use Rattle.replaying.proofs.Turns.{ToCome, Turn, all-to-come, none-to-come, in-form, turn, length-step, bytes-first, length-first, commits-step}
 use Rattle.replaying.proofs.Full.{full-opening}
 
--- the trace that a file in form has
-abbrev traceIn : {file : List ℕ} {h : Header} → WholeFile file h → Trace
-traceIn {file} {h} w = traceOf (headerOf h) (w .entries)
-
+-- a file in form is read as no other trace
 pub only-trace : {file : List ℕ} {h : Header} (w : WholeFile file h) (t : Trace) → decode file ≡ taken t → traceIn w ≡ t
 only-trace w t d = taken-injective (sym (w .decoded) ∙ d)
 

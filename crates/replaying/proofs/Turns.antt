@@ -1,9 +1,9 @@
 -- The records of a file in form, one after another, and what the replay has for each. Assumes nothing.
 use Prim.Native.Nat.{ℕ, _+_, _-_, _≤_, _<_}
-use mathlib.Core.Path.{_≡_, refl, sym, ap, _∙_, subst}
+use mathlib.Core.Path.{_≡_, refl, sym, ap, ap₂, _∙_, subst}
 use mathlib.Core.List.{List, [], _∷_, _++_, append-assoc}
 use native.Mathlib.Omega.{arith}
-use lib.ListN.{length}
+use lib.ListN.{length, length-append}
 use Rattle.endian.specs.Endian.{Bytes}
 use Rattle.store.specs.Limits.{maxClients, minBytes}
 use Rattle.store.specs.Store.{Configuration, opening, Event}
@@ -19,7 +19,7 @@ use Rattle.trace.specs.declared.records.Record.the-variants.{Shift, Commit}
 use Rattle.trace.specs.declared.records.Reading.the-variants.{Whole}
 use Rattle.trace.proofs.Decoded.{ReadAt, length-operationsAt, record-read}
 use Rattle.trace.proofs.InForm.{first-in-form, entries-first, nothing-left}
-use Rattle.trace.proofs.Sizes.{eventsLength}
+use Rattle.trace.proofs.Sizes.{eventsLength, length-eventsBytes}
 use Rattle.answer.specs.Replay.{replayStep, replayEvents}
 use Rattle.run.specs.OneRecord.{Readable}
 use Rattle.run.proofs.OneRecord.{record-readable}
@@ -81,11 +81,6 @@ unfolding eventsBytes
 events-append n [] fs = refl
 events-append n (e ∷ es) fs = ap (λ (l : List ℕ). eventBytes n e ++ l) (events-append n es fs) ∙ sym (append-assoc (eventBytes n e) (eventsBytes n es) (eventsBytes n fs))
 
-events-length-append : (n : ℕ) (es fs : List Event) → eventsLength n (es ++ fs) ≡ eventsLength n es + eventsLength n fs
-unfolding eventsLength
-events-length-append n [] fs = omega arith
-events-length-append n (e ∷ es) fs = let rest = events-length-append n es fs in omega arith
-
 -- how long it is
 pub length-step : (file : List ℕ) (n : ℕ) (r g : Configuration) (x : Record) → eventsLength n (replayStep r (event g (entryOf file n x))) ≡ replayLength n x
 unfolding replayStep event entryOf eventsLength
@@ -103,8 +98,9 @@ module _ (n : ℕ) (r : Configuration) {es others : List Event} (e : Event) (is-
 
   -- and so are their lengths
   pub length-first : eventsLength n (replayEvents r es) ≡ eventsLength n (replayStep r e) + eventsLength n (replayEvents after others)
-  unfolding replayEvents
-  length-first = ap (λ (l : List Event). eventsLength n (replayEvents r l)) is-first ∙ events-length-append n (replayStep r e) (replayEvents after others)
+  length-first =
+      sym (length-eventsBytes n (replayEvents r es)) ∙ ap length bytes-first ∙ length-append (eventsBytes n (replayStep r e)) (eventsBytes n (replayEvents after others))
+      ∙ ap₂ _+_ (length-eventsBytes n (replayStep r e)) (length-eventsBytes n (replayEvents after others))
 
 -- as many commits are made as the record has
 pub commits-step : (file : List ℕ) (n : ℕ) (r g : Configuration) (x : Record) → final r (replayStep r (event g (entryOf file n x))) .store .commits ≡ commitsWith (entryOf file n x) (r .store .commits)

@@ -1,6 +1,6 @@
 -- `replaying::records::size` meets its contract. The loop's invariant: what is reckoned, with the records to come, is the length of the replay. Assumes nothing.
 use Prim.Native.Nat.{_+_, _≤_, _<_}
-use mathlib.Core.Path.{_≡_, sym, ap, _∙_, subst}
+use mathlib.Core.Path.{_≡_}
 use native.Mathlib.Omega.{arith}
 use denote.Ref.{now}
 use Rattle.endian.specs.Endian.{Bytes}

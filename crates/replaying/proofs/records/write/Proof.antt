@@ -1,6 +1,6 @@
 -- `replaying::records::write` meets its contract. The loop's invariant: what is written, with the records to come, is the replay, and the masks are those of the
 -- full view that it has come to. Assumes nothing.
-use Prim.Native.Nat.{_+_, _≤_, _<_}
+use Prim.Native.Nat.{_<_}
 use mathlib.Core.Path.{_≡_, refl, _∙_}
 use native.Mathlib.Omega.{arith}
 use lib.ListN.{length}
@@ -11,7 +11,6 @@ use Rattle.trace.specs.Format.{Trace, decode}
 use Rattle.trace.specs.Meaning.{RecordSays}
 use Rattle.trace.specs.declared.records.Reading.the-variants.{Whole}
 use Rattle.state.specs.Room.{FreshRoom, ValuesRoom}
-use Rattle.replaying.specs.Full.{replayLength}
 use Rattle.replaying.proofs.Standing.{first-in-form, this, length-on, Written, written-first, written-on, written-all}
 use borrow.Author.Needs.{needs}
 use Rattle.replaying.proofs.records.write.Statement.{statement}

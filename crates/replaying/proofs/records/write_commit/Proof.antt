@@ -1,12 +1,9 @@
 -- `replaying::records::write_commit` meets its contract: the shift is to the full view before, and the view after the commit has its own versions. Assumes nothing.
-use Prim.Native.Nat.{_+_, _*_, _≤_}
-use mathlib.Core.Path.{_≡_, refl, sym, ap, _∙_}
+use mathlib.Core.Path.{_∙_}
 use native.Mathlib.Omega.{arith}
-use lib.ListN.{length, getD}
 use denote.Ref.{now}
 use Rattle.store.specs.Store.{Commit, write}
 use Rattle.trace.specs.Format.{operationsAt}
-use Rattle.answer.specs.Replay.{fullCommit}
 use Rattle.replaying.proofs.Full.{small-mask, full-after, row-written}
 use Rattle.replaying.proofs.Committed.{put-both}
 use borrow.Author.Needs.{needs}

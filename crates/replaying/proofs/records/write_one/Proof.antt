@@ -1,5 +1,5 @@
 -- `replaying::records::write_one` meets its contract: nothing for a shift, two records for a commit. Assumes nothing.
-use mathlib.Core.Path.{refl, sym, ap, _∙_, subst}
+use mathlib.Core.Path.{ap, subst}
 use native.Mathlib.Omega.{arith}
 use denote.Ref.{now}
 use Rattle.run.specs.OneRecord.{Readable}
