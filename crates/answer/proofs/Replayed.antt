@@ -10,10 +10,11 @@ use lib.ListN.{length}
 use Rattle.search.specs.Choose.{isSome}
 use Rattle.search.proofs.Tests.{isSome-some}
 use Rattle.sets.specs.Set.{below}
+use Rattle.dependencies.specs.History.{ReadYourWrites}
 use Rattle.store.specs.Limits.{numbers}
 use Rattle.store.specs.Store.{Key, VersionNumber, CommitNumber, Value, Version, View, Store, Configuration, count, version, nextNumber, read, write, Commit, Event, shift, commit}
 use Rattle.store.specs.Update.{valueOf, reads, newest, noteRead, append, atNumber, update, viewBefore, storeAfter, step, final}
-use Rattle.store.specs.History.{Wrote, Appears, held}
+use Rattle.store.specs.History.{Wrote, Appears, history, held}
 use Rattle.store.proofs.Updated.{at-same, count-update, untouched}
 use Rattle.store.specs.View.{IsView, FitsView}
 use Rattle.store.specs.Sound.{SoundStore, Sound, WithinKeys}
@@ -155,8 +156,10 @@ module _ (g r : Configuration) (c : Commit) (same : g .store ≡ r .store) (soun
           let l : i < count (shifted .store) k = shifted-sound .views (c .client) .exist k i b in
           full-holds-all (storeAfter shifted c) k i (omega (arith, count-update (shifted .store) (viewBefore shifted c) c k))
 
-      holds-own : (k i : ℕ) → Wrote (storeAfter shifted (fullCommit r c)) (nextNumber (shifted .store)) k i → held (fullCommit r c .viewAfter) k i
-      holds-own k i w = full-holds-all (storeAfter shifted (fullCommit r c)) k i (w .0)
+      holds-own : ReadYourWrites (history (storeAfter shifted (fullCommit r c))) (held (fullCommit r c .viewAfter)) (nextNumber (shifted .store))
+      holds-own =
+          let all = full-holds-all (storeAfter shifted (fullCommit r c)) in
+          (λ k i w. all k i (w .0), λ a o k i w. all k i (w .0))
 
   -- the replay of one commit
   pub replays-commit : ReplaysCommit g r c

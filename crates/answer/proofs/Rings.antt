@@ -96,7 +96,7 @@ module _ (g : Configuration) (c : Commit) (h : Sound g) (f : WithinKeys (g .stor
   snapshot-commit (mr, (ryw, (ua, (si, _)))) i = record {
     owned = owned-commit H H′ (views-of g) t (c .client) (new-client g c) (i .owned) Writes grown
         (λ d. held (atNumber (c .client) (c .viewAfter) (g .views) d)) (views-grow (g .views) (c .client) (c .viewAfter) mr)
-        (λ k j w. subst (λ (v : View). held v k j) (sym (at-same (c .client) (c .viewAfter) (g .views))) (ryw k j w));
+        (λ k j w. subst (λ (v : View). held v k j) (sym (at-same (c .client) (c .viewAfter) (g .views))) (ryw .0 k j w));
     acyclic = snapshot-stays-acyclic H H′ (held (viewBefore g c)) t Writes grown ua si
         (owned-owns H H′ (views-of g) t (c .client) (new-client g c) (i .owned)) (i .acyclic);
   }

@@ -1,5 +1,5 @@
--- The example traces A to H, the starred ones of 01 ("Traces from the bench"): one table of traces with the whole answer for the file of
--- each. proofs/Examples.antt is the claim about it. Assumes nothing.
+-- The example traces A to H, the starred ones of 01 ("Traces from the bench"), and L (02, E4): one table of traces with the whole answer for the
+-- file of each. proofs/Examples.antt is the claim about it. Assumes nothing.
 use Prim.Native.Nat.{ℕ}
 use mathlib.Core.Option.{Option, some, none}
 use mathlib.Core.List.{List, [], _∷_}
@@ -177,5 +177,20 @@ traceH = record {
   answered = refused (record { code = 11; atRecord = 2; key = 1; version = 1 });
 }
 
+-- "a client writes key 0, then reads 1 from it and ends with {0}: RYW now fails at record 2, clause 2, key 0, version 1 .. MR fails there as before, by
+-- clause 1" (02, E4)
+abbrev traceL : Row
+traceL = record {
+  trace = record {
+    keys = 1;
+    clients = 1;
+    events = commits 0 0 (writing 0 1 ∷ []) (3 ∷ []) ∷ commits 0 1 (reading 0 1 ∷ []) (1 ∷ []) ∷ [];
+  };
+  answered =
+      judges
+      (fails 2 2 monotonicReads ∷ accepted ∷ fails 2 2 readYourWrites ∷ accepted ∷ fails 2 2 monotonicReads ∷ accepted ∷ fails 2 2 monotonicReads
+      ∷ fails 2 2 monotonicReads ∷ fails 2 2 monotonicReads ∷ accepted ∷ []) 2 2 60;
+}
+
 abbrev pub table : List Row
-table = traceA ∷ traceB ∷ traceC ∷ traceD ∷ traceE ∷ traceF ∷ traceG ∷ traceH ∷ []
+table = traceA ∷ traceB ∷ traceC ∷ traceD ∷ traceE ∷ traceF ∷ traceG ∷ traceH ∷ traceL ∷ []

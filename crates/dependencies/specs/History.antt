@@ -1,5 +1,5 @@
--- Who wrote and who read which version, the links between commits that follow from it, and clauses 3 to 8 on a view (01, Clauses and levels;
--- quoted words are from there). These are meanings: nothing here computes, and nothing knows how a store is kept. Assumes nothing.
+-- Who wrote and who read which version, the links between commits that follow from it, and clauses 2 to 8 on a view (01, Clauses and
+-- levels, and 02, E4, for clause 2; quoted words are from there). These are meanings: nothing here computes, and nothing knows how a store is kept. Assumes nothing.
 use Prim.Native.Nat.{ℕ, _<_}
 use mathlib.Core.Path.{_≡_}
 use mathlib.Core.Logic.{_⊎_, _≢_}
@@ -71,6 +71,10 @@ AllOf H U t = (k i : ℕ) → H .wrote t k i → U k i
 -- clauses 3, 6 and 7: "if u holds a version by t, versions by any t' with t' to t in" R
 abbrev pub Closed : (ℕ → ℕ → Type 0) → History → Held → Type 0
 Closed R H U = (a b : ℕ) → Holds H U b → R a b → AllOf H U a
+
+-- 2, RYW, of the view after commit t: it holds "every version written by this commit or by any commit before it in SO"
+abbrev pub ReadYourWrites : History → Held → ℕ → Type 0
+ReadYourWrites H U t = AllOf H U t × ((a : ℕ) → SO H a t → AllOf H U a)
 
 -- 3, MW: "if u holds a version by t, versions by any t' with t' SO t"
 abbrev pub MonotonicWrites : History → Held → Type 0

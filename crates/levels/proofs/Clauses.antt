@@ -14,25 +14,25 @@ use Rattle.search.proofs.Search.{any-is}
 use Rattle.sets.specs.Set.{has}
 use Rattle.relations.specs.Relation.{Relation}
 use Rattle.relations.proofs.Closure.{Means}
-use Rattle.dependencies.specs.History.{Holds, Closed, MonotonicWrites, WriteFollowsReads, UpdateAtomic, ConsistentPrefix, SnapshotIsolation, Serialisable}
+use Rattle.dependencies.specs.History.{Holds, Closed, ReadYourWrites, MonotonicWrites, WriteFollowsReads, UpdateAtomic, ConsistentPrefix, SnapshotIsolation, Serialisable}
 use Rattle.dependencies.specs.History as D
 use Rattle.store.specs.Store.{Key, VersionNumber, CommitNumber, View, Store, count, version, nextNumber, Commit}
 use Rattle.store.specs.Update.{writes, update}
 use Rattle.store.specs.Missing.{Place, Rule, missing}
 use Rattle.store.specs.Links.{wrote, hasRead, holds, SO, prefixLinks, snapshotLinks, oneOrMore}
 use Rattle.store.specs.Refusal.{allOf}
-use Rattle.store.specs.History.{Wrote, Read, history, held}
+use Rattle.store.specs.History.{history, held}
 use Rattle.store.proofs.Updated.{count-update}
 use Rattle.store.specs.View.{IsView}
 use Rattle.store.specs.Sound.{SoundStore}
 use Rattle.store.proofs.Missing.{missing-none}
 use Rattle.store.proofs.Links.{holds-means, so-means, prefix-paths, snapshot-paths}
-use Rattle.levels.specs.Clause.{Clause, monotonicReads, readYourWrites, monotonicWrites, writesFollowReads, updateAtomic, consistentPrefix, snapshotIsolation, serialisability, leadingTo, readBefore, wants, missingBy}
+use Rattle.levels.specs.Clause.{Clause, monotonicReads, readYourWrites, monotonicWrites, writesFollowReads, updateAtomic, consistentPrefix, snapshotIsolation, serialisability, leadingTo, readBefore, sessionWrites, wants, missingBy}
 
 -- what each clause says of a commit c made on view u of store s
 abbrev pub Says : Store → View → Commit → Clause → Type 0
 Says s u c monotonicReads = (k i : ℕ) → held u k i → held (c .viewAfter) k i
-Says s u c readYourWrites = (k i : ℕ) → Wrote (update s u c) (nextNumber s) k i → held (c .viewAfter) k i
+Says s u c readYourWrites = ReadYourWrites (history (update s u c)) (held (c .viewAfter)) (nextNumber s)
 Says s u c monotonicWrites = MonotonicWrites (history s) (held u)
 Says s u c writesFollowReads = WriteFollowsReads (history s) (held u)
 Says s u c updateAtomic = UpdateAtomic (history s) (held u) (λ k. T (writes c k))
@@ -80,6 +80,30 @@ module _ (s : Store) (h : SoundStore s) (u : View) where
       back f k i l b hb (inl x) = f b hb .0 k i (l, x)
       back f k i l b hb (inr (a, n, (o, x))) = f b hb .1 a k i o (l, x)
 
+  -- clause 2, of any commit t of the store
+  session-writes-is : (t : CommitNumber) → (missing s (sessionWrites s t) u ≡ none) ↔ ReadYourWrites (history s) (held u) t
+  unfolding sessionWrites
+  session-writes-is t = (
+    λ e. (λ k i w. at e k i (w .0) (inl (w .1)), λ a o k i w. at e k i (w .0) (inr (subst (λ (x : ℕ). D.SO (history s) x t) (sym (w .1)) o))),
+    λ f. nothing .1 (λ k i l n x. back f k i n (wanted k i .0 x)),
+  )
+    where
+      By : ℕ → ℕ → Type 0
+      By k i = (version s k i .writer ≡ t) ⊎ D.SO (history s) (version s k i .writer) t
+
+      nothing : (missing s (sessionWrites s t) u ≡ none) ↔ ((k i : ℕ) → k < s .keys → i < count s k → T (sessionWrites s t k i) → T (has (u k) i))
+      nothing = missing-none s (sessionWrites s t) u
+
+      wanted : (k i : ℕ) → T (sessionWrites s t k i) ↔ By k i
+      wanted k i = or-is (wrote s t k i) _ (eq-is _ t) (so-means s h (version s k i .writer) t)
+
+      at : missing s (sessionWrites s t) u ≡ none → (k i : ℕ) → i < count s k → By k i → held u k i
+      at e k i l x = nothing .0 e k i (h .only-keys k i l) l (wanted k i .1 x)
+
+      back : ReadYourWrites (history s) (held u) t → (k i : ℕ) → i < count s k → By k i → held u k i
+      back f k i l (inl e) = f .0 k i (l, e)
+      back f k i l (inr o) = f .1 _ o k i (l, refl)
+
 module _ (s : Store) (h : SoundStore s) (u : View) (v : IsView s u) (c : Commit) (h′ : SoundStore (update s u c)) where
   pub clause-is : (x : Clause) → (missingBy s u c x ≡ none) ↔ Says s u c x
   unfolding missingBy wants choose
@@ -88,11 +112,7 @@ module _ (s : Store) (h : SoundStore s) (u : View) (v : IsView s u) (c : Commit)
         λ e k i b. let l : i < count (update s u c) k = let l′ : i < count s k = v .exist k i b in omega (arith, count-update s u c k) in m .0 e k i (h′ .only-keys k i l) l b,
         λ f. m .1 (λ k i l n b. f k i b),
       )
-  clause-is readYourWrites =
-      let m = missing-none (update s u c) (wrote (update s u c) (nextNumber s)) (c .viewAfter) in (
-        λ e k i w. m .0 e k i (h′ .only-keys k i (w .0)) (w .0) (eq-is _ (nextNumber s) .1 (w .1)),
-        λ f. m .1 (λ k i l n w. f k i (n, eq-is _ (nextNumber s) .0 w)),
-      )
+  clause-is readYourWrites = session-writes-is (update s u c) h′ (c .viewAfter) (nextNumber s)
   clause-is monotonicWrites = leading-is s h u (SO s) (so-means s h)
   clause-is writesFollowReads = read-before-is s h u
   clause-is updateAtomic =

@@ -1,4 +1,5 @@
--- The eight clauses (01, Clauses and levels; 001's figure of execution tests), each as the versions that it wants. Assumes nothing.
+-- The eight clauses (01, Clauses and levels; clause 2 as 02 amends it, E4; 001's figure of execution tests), each as the versions that it wants.
+-- Assumes nothing.
 use Prim.Native.Nat.{ℕ, suc}
 use mathlib.Core.Bool.{Bool, true, false, _&&_, _||_}
 use mathlib.Core.Option.{Option, some, none}
@@ -35,10 +36,15 @@ unfoldable pub readBefore : Store → View → Rule
 readBefore s u k i =
     any (nextNumber s) (λ t. holds s u t && (hasRead s t k i || any (nextNumber s) (λ t′. SO s t′ t && hasRead s t′ k i)))
 
+-- "every version written by this commit or by any commit before it in SO", of commit t. "A commit without operations asks nothing": it wrote nothing, and
+-- stands in no SO pair.
+unfoldable pub sessionWrites : Store → CommitNumber → Rule
+sessionWrites s t k i = wrote s t k i || SO s (version s k i .writer) t
+
 -- what each clause wants of a commit c made on view u of store s
 unfoldable pub wants : Store → View → Commit → Clause → Rule
 wants s u c monotonicReads = allOf u
-wants s u c readYourWrites = wrote (update s u c) (nextNumber s)
+wants s u c readYourWrites = sessionWrites (update s u c) (nextNumber s)
 wants s u c monotonicWrites = leadingTo s u (SO s)
 wants s u c writesFollowReads = readBefore s u
 wants s u c updateAtomic = λ k i. writes c k

@@ -36,7 +36,7 @@ use Rattle.state.proofs.Sets.{isSet-union}
 use Rattle.views.specs.Rules.{byWriter, byReader, ofWritten}
 use Rattle.views.proofs.Words.{meets-is}
 use Rattle.verdicts.specs.Wants.{LacksSome}
-use Rattle.views.proofs.Misses.{missing-same, missing-agree}
+use Rattle.store.proofs.Misses.{missing-same, missing-agree}
 use Rattle.verdicts.proofs.OnSets.{writes-ranked}
 use Rattle.verdicts.proofs.FirstFailing.{same-clause}
 

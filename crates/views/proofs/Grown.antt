@@ -33,7 +33,7 @@ use Rattle.views.proofs.Tests.{has-as}
 use Rattle.views.proofs.Codes.{mask-holds}
 use Rattle.views.proofs.Words.{writer-in}
 use Rattle.views.proofs.Rows.{masks-row}
-use Rattle.views.proofs.Misses.{missing-agree}
+use Rattle.store.proofs.Misses.{missing-agree}
 
 module _ (s : Store) (old u : View) (n : ℕ) (versions keys masks : List ℕ) (base : ℕ) (seen : Set) (fresh : List ℕ)
     (m : NewMasks s old u n versions keys masks base seen fresh) (good : badMask s u ≡ none) where

@@ -4,7 +4,6 @@ pub mod Looking
 pub mod Words
 pub mod Own
 pub mod Gathered
-pub mod Misses
 pub mod Grown
 pub mod OpeningView
 pub mod AtOnce
