@@ -1,4 +1,4 @@
--- Clauses 3 to 8 on sets of commits: a view passes a clause exactly where no commit that the clause wants is lacking, that is, has written something of which the
+-- Clauses 2 to 8 on sets of commits: a view passes a clause exactly where no commit that the clause wants is lacking, that is, has written something of which the
 -- view holds nothing. Clauses 3, 6 and 7 are one law with the links as a parameter. Assumes nothing.
 use mathlib.Core.Path.{_≡_, refl, subst}
 use mathlib.Core.Bool.{Bool, _&&_, not}
@@ -7,12 +7,12 @@ use Prim.Native.Nat.{ℕ, _<_}
 use native.Mathlib.Omega.{arith}
 use lib.Dec.{T}
 use Rattle.search.specs.Search.{any}
-use Rattle.search.proofs.Tests.{and-is, not-is, eq-is, stable}
+use Rattle.search.proofs.Tests.{both, and-is, not-is, eq-is, stable}
 use Rattle.search.proofs.Search.{any-is}
 use Rattle.sets.specs.Set.{has, below}
 use Rattle.sets.proofs.Algebra.{full-is}
 use Rattle.relations.specs.Relation.{Plus}
-use Rattle.dependencies.specs.History.{SO, write-read, PrefixStep, SnapshotStep, Holds, Closed, MonotonicWrites, WriteFollowsReads, UpdateAtomic, ConsistentPrefix, SnapshotIsolation, Serialisable}
+use Rattle.dependencies.specs.History.{SO, write-read, PrefixStep, SnapshotStep, Holds, Closed, ReadYourWrites, MonotonicWrites, WriteFollowsReads, UpdateAtomic, ConsistentPrefix, SnapshotIsolation, Serialisable}
 use Rattle.store.specs.Store.{Key, CommitNumber, View, Store, count, version, nextNumber, Commit}
 use Rattle.store.specs.Update.{writes}
 use Rattle.store.specs.Links.{wrote, somewhere, holds}
@@ -23,7 +23,7 @@ use Rattle.store.proofs.Missing.{somewhere-is}
 use Rattle.store.proofs.Links.{holds-means}
 use Rattle.growth.specs.Made.{Writer}
 use Rattle.growth.specs.Links.{FromWrite}
-use Rattle.growth.specs.Sessions.{ReadUpTo}
+use Rattle.growth.specs.Sessions.{UpTo, ReadUpTo}
 use Rattle.growth.specs.Views.{Lacking, Full}
 use Rattle.growth.proofs.Views.{held-writer}
 use Rattle.growth.specs.Clauses.{LeadsToHeld, LacksOneOf}
@@ -43,6 +43,20 @@ module _ (s : Store) (u : View) (v : IsView s u) where
     λ f (a, x, ((k, (i, w)), n)). not-lacking a k i w (f a x k i w) ((k, (i, w)), n),
     λ none a x k i w. held-unless-lacking a k i w (λ y. none (a, x, y)),
   )
+
+  -- clause 2, of any commit t of the store
+  pub read-your-writes-is : (t : CommitNumber) → ReadYourWrites (history s) (held u) t ↔ (¬ LacksOneOf s u (UpTo (history s) t))
+  read-your-writes-is t = both (split, joined) (all-of-is (UpTo (history s) t))
+    where
+      AllUpTo : Type 0
+      AllUpTo = (a : CommitNumber) → UpTo (history s) t a → (k i : ℕ) → Wrote s a k i → T (has (u k) i)
+
+      split : ReadYourWrites (history s) (held u) t → AllUpTo
+      split f a (inl e) k i w = f .0 k i (subst (λ (b : ℕ). Wrote s b k i) e w)
+      split f a (inr o) k i w = f .1 a o k i w
+
+      joined : AllUpTo → ReadYourWrites (history s) (held u) t
+      joined f = (λ k i w. f t (inl refl) k i w, λ a o k i w. f a (inr o) k i w)
 
   -- clauses 3, 6 and 7
   pub closed-is : (R : ℕ → ℕ → Type 0) → Closed R (history s) (held u) ↔ (¬ LacksOneOf s u (LeadsToHeld s u R))

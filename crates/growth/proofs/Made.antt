@@ -7,6 +7,7 @@ use native.Mathlib.Omega.{arith}
 use lib.Dec.{T}
 use lib.Pow.{pow-pos}
 use Rattle.search.proofs.Tests.{both}
+use Rattle.sets.specs.Set.{has}
 use Rattle.sets.proofs.Laws.{has-large, has-highest}
 use Rattle.dependencies.specs.History.{History, Stored, as-writer, as-reader}
 use Rattle.store.specs.Store.{Key, VersionNumber, CommitNumber, Client, View, Store, Configuration, count, nextNumber, Commit}
@@ -55,11 +56,14 @@ module _ (s : Store) (u : View) (c : Commit) (m : Made s u c) where
   pub sound-after : SoundStore (update s u c)
   sound-after = sound-update s u c (m .sound) (m .fits .read-keys) (m .fits .write-keys)
 
-  -- the version that the commit reads is there
-  pub read-exists : (k : Key) → T (reads c k) → newest u k < count s k
-  read-exists k r =
+  -- the version that the commit reads is held, so it is there
+  pub read-held : (k : Key) → T (reads c k) → T (has (u k) (newest u k))
+  read-held k r =
       let l : 2 ^ 0 ≤ u k = has-large (u k) 0 (m .view .opened k (m .fits .read-keys k r)) in
-      m .view .exist k (newest u k) (has-highest (u k) (omega (arith, pow-pos 0)) (m .view .word k))
+      has-highest (u k) (omega (arith, pow-pos 0)) (m .view .word k)
+
+  pub read-exists : (k : Key) → T (reads c k) → newest u k < count s k
+  read-exists k r = m .view .exist k (newest u k) (read-held k r)
 
   -- versions and their writers, and their readers
   pub wrote-after : (t k i : ℕ) → Wrote (update s u c) t k i ↔ (Wrote s t k i ⊎ ((t ≡ nextNumber s) × T (writes c k) × (i ≡ count s k)))

@@ -12,16 +12,20 @@ use Rattle.search.proofs.Tests.{both}
 use Rattle.sets.specs.Set.{Set, has, insert}
 use Rattle.sets.proofs.Laws.{has-none, insert-has, has-insert, insert-self}
 use Rattle.sets.proofs.Algebra.{empty-is, both-is}
-use Rattle.store.specs.Store.{CommitNumber, View, Store, Commit}
+use Rattle.store.specs.Store.{CommitNumber, View, Store, nextNumber, Commit}
+use Rattle.store.specs.Update.{update}
+use Rattle.store.specs.History.{history}
+use Rattle.growth.proofs.Made.{sound-after}
+use Rattle.growth.specs.Sessions.{UpTo}
 use Rattle.growth.specs.Views.{Lacking}
 use Rattle.growth.specs.Clauses.{LacksOneOf}
-use Rattle.growth.proofs.Clauses.{monotonic-writes-is, write-follows-reads-is, update-atomic-is, consistent-prefix-is, snapshot-isolation-is, serialisable-is}
+use Rattle.growth.proofs.Clauses.{read-your-writes-is, monotonic-writes-is, write-follows-reads-is, update-atomic-is, consistent-prefix-is, snapshot-isolation-is, serialisable-is}
 use Rattle.levels.specs.Clause.{Clause, monotonicReads, readYourWrites, monotonicWrites, writesFollowReads, updateAtomic, consistentPrefix, snapshotIsolation, serialisability, clauseNumber, missingBy}
 use Rattle.levels.proofs.Clauses.{Says, clause-is}
 use Rattle.state.specs.declared.Found.{Found}
 use Rattle.state.specs.Keeps.{IsSet}
 use Rattle.state.specs.Answers.{placeOf}
-use Rattle.verdicts.specs.declared.Wanted.{Wanted}
+use Rattle.verdicts.specs.declared.Hand.{Hand}
 use Rattle.verdicts.specs.Wants.{LacksSome}
 use Rattle.verdicts.specs.AtHand.{AtHand}
 use Rattle.verdicts.specs.Verdicts.{FailingClauses}
@@ -39,25 +43,31 @@ none-lacking s u W m lacking is h = let e = empty-is (bitAnd m lacking) in (
   λ n. e .1 (λ a t. let y = both-is m lacking a .0 t in let x = is a .0 (y .1) in n (a, h (a, x) a .0 (y .0), x)),
 )
 
-module _ (s : Store) (u : View) (c : Commit) (w : Wanted) (lost own : Found) (h : AtHand s u c w lost own) where
+module _ (s : Store) (u : View) (c : Commit) (g : Hand) (h : AtHand s u c g) where
   -- a clause passes where a number is 0
   abbrev Passes : ℕ → Clause → Type 0
   Passes met x = (met ≡ 0) ↔ (missingBy s u c x ≡ none)
 
   said : (x : Clause) → Says s u c x ↔ (missingBy s u c x ≡ none)
-  said x = back (clause-is s (h .sound) u (h .view) c (h .sound-after) x)
+  said x = back (clause-is s (h .made .sound) u (h .made .view) c (sound-after s u c (h .made)) x)
 
   found-passes : (f : Found) (x : Clause) → placeOf f ≡ missingBy s u c x → (met : ℕ) → (met ≡ 0) ↔ (placeOf f ≡ none) → Passes met x
   found-passes f x e met g = both g (λ z. sym e ∙ z, λ z. e ∙ z)
 
-  set-passes : (x : Clause) (W : CommitNumber → Type 0) (m : Set) → (LacksSome s u → IsSet m W) → Says s u c x ↔ (¬ LacksOneOf s u W) → Passes (bitAnd m (w .lacking)) x
-  set-passes x W m is e = both (none-lacking s u W m (w .lacking) (h .wants .lacking) is) (both (back e) (said x))
+  set-passes : (x : Clause) (W : CommitNumber → Type 0) (m : Set) → (LacksSome s u → IsSet m W) → Says s u c x ↔ (¬ LacksOneOf s u W) → Passes (bitAnd m (g .wanted .lacking)) x
+  set-passes x W m is e = both (none-lacking s u W m (g .wanted .lacking) (h .wants .lacking) is) (both (back e) (said x))
 
-  lacking-passes : Passes (w .lacking) serialisability
+  -- clause 2 is asked of the view after
+  session-passes : Passes (bitAnd (g .session) (g .absent)) readYourWrites
+  session-passes =
+      both (none-lacking (update s u c) (c .viewAfter) (UpTo (history (update s u c)) (nextNumber s)) (g .session) (g .absent) (h .lacking-after) (λ _. h .session))
+      (both (back (read-your-writes-is (update s u c) (c .viewAfter) (h .view-after) (nextNumber s))) (said readYourWrites))
+
+  lacking-passes : Passes (g .wanted .lacking) serialisability
   lacking-passes =
       both
-      (λ z (a, x). empty-is (w .lacking) .0 z a (h .wants .lacking a .1 x), λ n. empty-is (w .lacking) .1 (λ a t. n (a, h .wants .lacking a .0 t)))
-      (both (back (serialisable-is s u (h .view))) (said serialisability))
+      (λ z (a, x). empty-is (g .wanted .lacking) .0 z a (h .wants .lacking a .1 x), λ n. empty-is (g .wanted .lacking) .1 (λ a t. n (a, h .wants .lacking a .0 t)))
+      (both (back (serialisable-is s u (h .made .view))) (said serialisability))
 
 -- ---- the set of the failing clauses
 
@@ -109,20 +119,22 @@ module _ {s : Store} {u : View} {c : Commit} where
       at x (l, y, e, n) = subst (λ (z : Clause). ¬ (missingBy s u c z ≡ none)) (same-clause y x e) n
 
 -- what the eight marks make
-pub failing-is : (s : Store) (u : View) (c : Commit) (w : Wanted) (lost own : Found) → AtHand s u c w lost own
-    → (m1 m2 m3 m4 m5 m6 m7 m8 first second : ℕ) → (first ≡ 0) ↔ (placeOf lost ≡ none) → (second ≡ 0) ↔ (placeOf own ≡ none)
-    → Marks 0 1 first m1 → Marks m1 2 second m2 → Marks m2 3 (bitAnd (w .before) (w .lacking)) m3 → Marks m3 4 (bitAnd (w .read) (w .lacking)) m4
-    → Marks m4 5 (bitAnd (w .written) (w .lacking)) m5 → Marks m5 6 (bitAnd (w .prefix) (w .lacking)) m6 → Marks m6 7 (bitAnd (w .snapshot) (w .lacking)) m7
-    → Marks m7 8 (w .lacking) m8 → FailingClauses s u c m8
-failing-is s u c w lost own h m1 m2 m3 m4 m5 m6 m7 m8 first second f1 f2 k1 k2 k3 k4 k5 k6 k7 k8 =
+pub failing-is : (s : Store) (u : View) (c : Commit) (g : Hand) → AtHand s u c g → (m1 m2 m3 m4 m5 m6 m7 m8 first : ℕ) → (first ≡ 0) ↔ (placeOf (g .lost) ≡ none)
+    → Marks 0 1 first m1 → Marks m1 2 (bitAnd (g .session) (g .absent)) m2 → Marks m2 3 (bitAnd (g .wanted .before) (g .wanted .lacking)) m3
+    → Marks m3 4 (bitAnd (g .wanted .read) (g .wanted .lacking)) m4 → Marks m4 5 (bitAnd (g .wanted .written) (g .wanted .lacking)) m5
+    → Marks m5 6 (bitAnd (g .wanted .prefix) (g .wanted .lacking)) m6 → Marks m6 7 (bitAnd (g .wanted .snapshot) (g .wanted .lacking)) m7
+    → Marks m7 8 (g .wanted .lacking) m8 → FailingClauses s u c m8
+failing-is s u c g h m1 m2 m3 m4 m5 m6 m7 m8 first f1 k1 k2 k3 k4 k5 k6 k7 k8 =
+    let w = g .wanted in
+    let v = h .made .view in
     all-below-9
     (marks serialisability _ (marks snapshotIsolation _ (marks consistentPrefix _ (marks updateAtomic _
-    (marks writesFollowReads _ (marks monotonicWrites _ (marks readYourWrites second (marks monotonicReads first none-below-1
-    (found-passes s u c w lost own h lost monotonicReads (h .lost-is) first f1) k1)
-    (found-passes s u c w lost own h own readYourWrites (h .own-is) second f2) k2)
-    (set-passes s u c w lost own h monotonicWrites _ (w .before) (h .wants .before) (monotonic-writes-is s u (h .view))) k3)
-    (set-passes s u c w lost own h writesFollowReads _ (w .read) (h .wants .read) (write-follows-reads-is s u (h .view))) k4)
-    (set-passes s u c w lost own h updateAtomic _ (w .written) (h .wants .written) (update-atomic-is s u (h .view) c)) k5)
-    (set-passes s u c w lost own h consistentPrefix _ (w .prefix) (h .wants .prefix) (consistent-prefix-is s u (h .view))) k6)
-    (set-passes s u c w lost own h snapshotIsolation _ (w .snapshot) (h .wants .snapshot) (snapshot-isolation-is s u (h .view))) k7)
-    (lacking-passes s u c w lost own h) k8)
+    (marks writesFollowReads _ (marks monotonicWrites _ (marks readYourWrites _ (marks monotonicReads first none-below-1
+    (found-passes s u c g h (g .lost) monotonicReads (h .lost-is) first f1) k1)
+    (session-passes s u c g h) k2)
+    (set-passes s u c g h monotonicWrites _ (w .before) (h .wants .before) (monotonic-writes-is s u v)) k3)
+    (set-passes s u c g h writesFollowReads _ (w .read) (h .wants .read) (write-follows-reads-is s u v)) k4)
+    (set-passes s u c g h updateAtomic _ (w .written) (h .wants .written) (update-atomic-is s u v c)) k5)
+    (set-passes s u c g h consistentPrefix _ (w .prefix) (h .wants .prefix) (consistent-prefix-is s u v)) k6)
+    (set-passes s u c g h snapshotIsolation _ (w .snapshot) (h .wants .snapshot) (snapshot-isolation-is s u v)) k7)
+    (lacking-passes s u c g h) k8)

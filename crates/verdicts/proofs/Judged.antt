@@ -1,60 +1,89 @@
--- What is at hand where a commit is judged, from what the arrays keep before it; and a commit that fails no clause. Assumes nothing.
-use Prim.Native.Nat.{ℕ}
-use mathlib.Core.Path.{_≡_, ap, _∙_, subst}
+-- What is at hand where a commit is judged, from what its caller knows; and a commit that fails no clause. Assumes nothing.
+use Prim.Native.Nat.{ℕ, _<_}
+use mathlib.Core.Path.{_≡_, sym, ap, _∙_, subst}
 use mathlib.Core.Bool.{Bool, false, not}
+use mathlib.Core.Logic.{_⊎_, inl, inr, ⊎-elim, _↔_}
 use mathlib.Core.Option.{Option}
 use mathlib.Core.List.{List}
 use lib.Dec.{T}
+use lib.ListN.{getD}
 use borrow.Author.Tests.{not-false}
 use Rattle.search.specs.Choose.{orElse}
-use Rattle.search.proofs.Tests.{true-T}
-use Rattle.sets.specs.Set.{Set, has}
+use Rattle.search.proofs.Tests.{T?, true-T}
+use Rattle.sets.specs.Set.{Set, has, insert, union, without}
 use Rattle.sets.proofs.Laws.{has-none}
-use Rattle.store.specs.Store.{View, Store, nextNumber, Commit}
+use Rattle.dependencies.specs.History.{Holds}
+use Rattle.store.specs.Store.{View, Store, Commit}
 use Rattle.store.specs.Update.{update}
 use Rattle.store.specs.Missing.{missing}
-use Rattle.store.specs.Links.{wrote}
 use Rattle.store.specs.Refusal.{allOf}
+use Rattle.store.specs.History.{history, held}
+use Rattle.growth.specs.Made.{Writes, Writer}
+use Rattle.growth.proofs.Made.{keys-after, writer-after}
+use Rattle.growth.specs.Views.{Lacking}
 use Rattle.levels.specs.Level.{Level, clausesOf, Failure, failsClauses}
 use Rattle.state.specs.declared.Found.{Found}
 use Rattle.state.specs.declared.Found.the-variants.{Nothing}
+use Rattle.state.specs.Places.{numbers, beforePlace}
+use Rattle.state.specs.Keeps.{IsSet}
 use Rattle.state.specs.Answers.{placeOf}
-use Rattle.views.proofs.OwnView.{own-lost-none, own-missing-none}
+use Rattle.state.proofs.Sets.{isSet-as, isSet-union, isSet-insert, isSet-without}
+use Rattle.views.proofs.OwnView.{own-lost-none}
 use Rattle.verdicts.specs.declared.Wanted.{Wanted}
-use Rattle.verdicts.specs.Wants.{Wants}
-use Rattle.verdicts.specs.AtHand.{AtHand, Judging, BeforeCommit}
+use Rattle.verdicts.specs.declared.Held.{Held}
+use Rattle.verdicts.specs.declared.Hand.{Hand}
+use Rattle.verdicts.specs.AtHand.{AtHand, Judging, AfterCommit}
 use Rattle.verdicts.specs.Verdicts.{levelAt, FailingClauses, KeepsVerdicts}
 use Rattle.verdicts.proofs.FirstFailing.{none-failing}
-use Rattle.verdicts.proofs.Searches.{lost-is, own-is}
+use Rattle.verdicts.proofs.Searches.{lost-is}
 use Rattle.verdicts.proofs.Noted.{orElse-end}
 
--- for proofs alone: what clauses 1 and 2 find missing
-abbrev pub Searched : Store → View → Commit → Found → Found → Type 0
-Searched s u c lost own = (placeOf lost ≡ missing s (allOf u) (c .viewAfter)) × (placeOf own ≡ missing (update s u c) (wrote (update s u c) (nextNumber s)) (c .viewAfter))
+module _ {s : Store} {u : View} {c : Commit} {w : Wanted} {sight : Held} {versions keys commits views fresh values : List ℕ} {ranks : Set} {plain : Bool} {base n me : ℕ}
+    (b : AfterCommit s u c w sight versions keys commits views fresh values ranks plain base n me) where
+  -- where the view after is the view before and the commit's own versions, clause 1 misses nothing, and no search is made
+  pub plain-lost : {lost : Found} → not plain ≡ false → lost ≡ Nothing → placeOf lost ≡ missing s (allOf u) (c .viewAfter)
+  plain-lost t e = ap placeOf e ∙ own-lost-none s u c (b .adds-own (true-T plain (not-false plain t)))
 
-module _ {s : Store} {u : View} {c : Commit} {versions keys commits links views fresh values : List ℕ} {seen ranks : Set} {plain : Bool} {base n : ℕ}
-    (b : BeforeCommit s u c versions keys commits links views fresh values seen ranks plain base n) where
-  -- where the view after is the view before and the commit's own versions, nothing is, and no search is made
-  pub plain-searched : {lost own : Found} → not plain ≡ false → lost ≡ Nothing → own ≡ Nothing → Searched s u c lost own
-  plain-searched t e f =
-      let adds = b .adds-own (true-T plain (not-false plain t)) in
-      (ap placeOf e ∙ own-lost-none s u c (b .arrays .sound) adds, ap placeOf f ∙ own-missing-none s u c (b .arrays .sound) adds)
+  pub keys-are : s .keys ≡ n
+  keys-are = sym (keys-after s u c (b .made)) ∙ b .arrays .number
 
-module _ {s : Store} {u : View} {c : Commit} {versions keys commits links views fresh values : List ℕ} {seen ranks : Set} {plain : Bool} {base n : ℕ}
-    (b : BeforeCommit s u c versions keys commits links views fresh values seen ranks plain base n) (w : Wanted) (lost own : Found) (wants : Wants s u c w)
-    (searched : Searched s u c lost own) where
-  pub at-hand : AtHand s u c w lost own
-  at-hand = record {
-    sound = b .arrays .sound;
-    view = b .view;
-    sound-after = b .sound-after;
-    wants = wants;
-    lost-is = searched .0 ∙ lost-is s u c (b .view);
-    own-is = searched .1 ∙ own-is s u c;
-  }
+  -- the writers of the store after it: those that the view before holds, those that it lacks, and the commit where it writes something
+  writers-are : IsSet (union (union (sight .before) (w .lacking)) (sight .own)) (Writer (history (update s u c)))
+  writers-are = isSet-as _ writer (isSet-union (union (sight .before) (w .lacking)) (sight .own) (isSet-union (sight .before) (w .lacking) (b .holds) (b .wants .lacking)) (b .own))
+    where
+      before : (t : ℕ) → (Holds (history s) (held u) t ⊎ Lacking s u t) ↔ Writer (history s) t
+      before t = (⊎-elim (λ (k, i, _, x). (k, (i, x))) (λ x. x .0), λ x. go x (T? (has (sight .before) t)))
+        where
+          go : Writer (history s) t → Dec (T (has (sight .before) t)) → Holds (history s) (held u) t ⊎ Lacking s u t
+          go x (yes y) = inl (b .holds t .0 y)
+          go x (no y) = inr (x, λ z. y (b .holds t .1 z))
 
-  pub judging : Judging s u c (record { seen = seen; ranks = ranks; lost = lost; own = own; wanted = w }) values versions keys views base n
-  judging = record { at-hand = at-hand; holds = b .holds; operations = b .operations; arrays = b .arrays }
+      writer : (t : ℕ) → ((Holds (history s) (held u) t ⊎ Lacking s u t) ⊎ ((t ≡ me) × Writes c)) ↔ Writer (history (update s u c)) t
+      writer t =
+          let x = writer-after s u c (b .made) t in (
+            ⊎-elim (λ y. x .1 (inl (before t .0 y))) (λ (e, y). x .1 (inr (e ∙ sym (b .number-is), y))),
+            λ y. ⊎-elim (λ z. inl (before t .1 z)) (λ (e, z). inr (e ∙ b .number-is, z)) (x .0 y),
+          )
+
+  -- what is at hand from there
+  module _ (lost : Found) (searched : placeOf lost ≡ missing s (allOf u) (c .viewAfter)) {session absent : Set}
+      (up-to : session ≡ insert me (getD commits (beforePlace me) 0)) (few : me < numbers)
+      (left : absent ≡ without (union (union (sight .before) (w .lacking)) (sight .own)) (sight .after)) where
+    abbrev hand : Hand
+    hand = record { seen = sight .before; ranks = ranks; lost = lost; session = session; absent = absent; wanted = w }
+
+    pub at-hand : AtHand s u c hand
+    at-hand = record {
+      made = b .made;
+      view-after = b .view-after;
+      wants = b .wants;
+      lost-is = searched ∙ lost-is s u c (b .made .view);
+      session = rw (up-to, b .number-is) (isSet-insert me _ (b .in-commits .before me few));
+      lacking-after = rw left (isSet-without _ (sight .after) writers-are (b .holds-after));
+    }
+
+    pub judging : Judging s u c hand values versions keys views fresh base n
+    judging = record { at-hand = at-hand; holds = b .holds; operations = b .operations; arrays = b .arrays; masks = b .masks }
 
 -- where no clause fails the verdicts stay
 pub no-clause-fails : (n : ℕ) (s : Store) (u : View) (c : Commit) {failing : Set} → FailingClauses s u c failing → failing ≡ 0

@@ -1,46 +1,50 @@
 -- What is missing by each clause, as the searches of crate views find it. Assumes nothing.
 use Prim.Native.Nat.{ℕ, _^_, _<_}
-use mathlib.Core.Path.{_≡_, refl, sym, ap, _∙_}
+use mathlib.Core.Path.{_≡_, refl, sym, ap, _∙_, subst}
 use mathlib.Core.Bool.{true}
 use mathlib.Core.Logic.{_⊎_, inl, inr, _↔_, _≢_}
 use mathlib.Core.Option.{Option}
 use mathlib.Core.List.{List}
 use native.Mathlib.Omega.{arith}
 use lib.Dec.{T}
+use lib.Bits.{bitAnd}
 use Rattle.search.specs.Choose.{choose}
 use Rattle.search.specs.Search.{any}
-use Rattle.search.proofs.Tests.{same, both, and-is, or-is}
+use Rattle.search.proofs.Tests.{same, both, and-is, or-is, eq-is}
 use Rattle.search.proofs.Search.{any-is}
 use Rattle.sets.specs.Set.{Set, has, union}
-use Rattle.sets.proofs.Algebra.{union-word}
+use Rattle.sets.proofs.Algebra.{union-word, both-is}
 use Rattle.relations.specs.Relation.{Relation, Plus}
 use Rattle.relations.proofs.Closure.{Means}
-use Rattle.dependencies.specs.History.{Holds}
+use Rattle.dependencies.specs.History.{Holds, as-writer}
 use Rattle.dependencies.specs.History as D
 use Rattle.store.specs.Store.{CommitNumber, View, Store, count, version, nextNumber, Commit}
-use Rattle.store.specs.Update.{writes, update}
+use Rattle.store.specs.Update.{reads, writes, newest, update}
 use Rattle.store.specs.Missing.{Place, Rule, missing}
 use Rattle.store.specs.Links.{wrote, hasRead, holds, SO, prefixLinks, snapshotLinks, oneOrMore}
 use Rattle.store.specs.Refusal.{allOf}
 use Rattle.store.proofs.Updated.{count-update}
 use Rattle.store.specs.View.{IsView}
 use Rattle.store.specs.Sound.{SoundStore}
-use Rattle.store.specs.History.{history, held}
+use Rattle.store.specs.History.{Wrote, Read, history, held}
 use Rattle.store.proofs.Links.{stored-below, holds-means, so-means, prefix-paths, snapshot-paths}
+use Rattle.growth.specs.Made.{Made}
+use Rattle.growth.proofs.Made.{keys-after, sound-after, read-held, wrote-after, read-after, stored-not-new}
+use Rattle.growth.specs.Sessions.{UpTo}
 use Rattle.growth.specs.Views.{Lacking}
 use Rattle.growth.proofs.Views.{held-writer}
 use Rattle.growth.specs.Clauses.{LeadsToHeld}
-use Rattle.levels.specs.Clause.{Clause, monotonicReads, readYourWrites, monotonicWrites, writesFollowReads, updateAtomic, consistentPrefix, snapshotIsolation, serialisability, clauseNumber, leadingTo, readBefore, wants, missingBy}
+use Rattle.levels.specs.Clause.{Clause, monotonicReads, readYourWrites, monotonicWrites, writesFollowReads, updateAtomic, consistentPrefix, snapshotIsolation, serialisability, clauseNumber, leadingTo, readBefore, sessionWrites, wants, missingBy}
 use Rattle.state.specs.Keeps.{IsSet, Step, KeepsOperations}
 use Rattle.state.proofs.Sets.{isSet-union}
 use Rattle.views.specs.Rules.{byWriter, byReader, ofWritten}
 use Rattle.views.proofs.Words.{meets-is}
 use Rattle.verdicts.specs.Wants.{LacksSome}
-use Rattle.store.proofs.Misses.{missing-same, missing-agree}
+use Rattle.store.proofs.Misses.{Misses, missing-same, missing-agree}
 use Rattle.verdicts.proofs.OnSets.{writes-ranked}
 use Rattle.verdicts.proofs.FirstFailing.{same-clause}
 
--- ---- clauses 1 and 2
+-- ---- clause 1
 
 -- a view holds nothing that the store before the commit has not
 pub lost-is : (s : Store) (u : View) (c : Commit) → IsView s u → missing s (allOf u) (c .viewAfter) ≡ missingBy s u c monotonicReads
@@ -50,11 +54,7 @@ lost-is s u c v = missing-same s (update s u c) (allOf u) (allOf u) (c .viewAfte
   λ (l, t, n). (v .exist k i t, t, n),
 ))
 
-pub own-is : (s : Store) (u : View) (c : Commit) → missing (update s u c) (wrote (update s u c) (nextNumber s)) (c .viewAfter) ≡ missingBy s u c readYourWrites
-unfolding missingBy wants choose
-own-is s u c = refl
-
--- ---- clauses 3 to 8
+-- ---- clauses 3 to 8, in the store before the commit
 
 module _ (s : Store) (h : SoundStore s) (u : View) (v : IsView s u) where
   -- the writer of a version that is not held is lacking
@@ -138,6 +138,63 @@ module _ (s : Store) (h : SoundStore s) (u : View) (v : IsView s u) where
     pub lacking-missing : (m : Set) → IsSet m (Lacking s u) → missing s (byWriter s m) u ≡ missingBy s u c serialisability
     unfolding missingBy wants choose
     lacking-missing m is = rules-agree (byWriter s m) (λ k i. true) (λ k i x. (λ t. tt, λ t. is (version s k i .writer) .1 x))
+
+-- ---- the searches are made in the store after the commit
+
+module _ (s : Store) (u : View) (c : Commit) (made : Made s u c) where
+  -- clause 2: the versions by the commit and by those before it in SO
+  pub session-missing : (m : Set) → IsSet m (UpTo (history (update s u c)) (nextNumber s)) → missing (update s u c) (byWriter (update s u c) m) (c .viewAfter) ≡ missingBy s u c readYourWrites
+  unfolding missingBy wants choose sessionWrites
+  session-missing m is = missing-agree (update s u c) (byWriter (update s u c) m) (sessionWrites (update s u c) (nextNumber s)) (c .viewAfter) (λ k i l n.
+      let a = version (update s u c) k i .writer in
+      let rule = or-is (wrote (update s u c) (nextNumber s) k i) (SO (update s u c) a (nextNumber s)) (eq-is a (nextNumber s)) (so-means (update s u c) (sound-after s u c made) a (nextNumber s)) in
+      (λ t. rule .1 (is a .0 t), λ t. is a .1 (rule .0 t)))
+
+  -- a search for what lacking commits wrote finds the same in both stores, as the commit itself is none of these
+  pub by-lacking : (m m′ : Set) → IsSet m′ (λ a. T (has m a) × Lacking s u a) → missing (update s u c) (byWriter (update s u c) m′) u ≡ missing s (byWriter s m) u
+  by-lacking m m′ is = missing-same (update s u c) s (byWriter (update s u c) m′) (byWriter s m) u u (keys-after s u c made) (λ k i. (out k i, back k i))
+    where
+      out : (k i : ℕ) → Misses (update s u c) (byWriter (update s u c) m′) u k i → Misses s (byWriter s m) u k i
+      out k i (l, t, n) = go (wrote-after s u c made a k i .0 (l, refl))
+        where
+          a : CommitNumber
+          a = version (update s u c) k i .writer
+
+          go : Wrote s a k i ⊎ ((a ≡ nextNumber s) × T (writes c k) × (i ≡ count s k)) → Misses s (byWriter s m) u k i
+          go (inl w) = (w .0, subst (λ (b : ℕ). T (has m b)) (sym (w .1)) (is a .0 t .0), n)
+          go (inr (e, _, _)) = let x = is a .0 t .1 .0 in absurd (stored-not-new s u c made (as-writer (x .1 .1)) e)
+
+      back : (k i : ℕ) → Misses s (byWriter s m) u k i → Misses (update s u c) (byWriter (update s u c) m′) u k i
+      back k i (l, t, n) =
+          let a = version s k i .writer in
+          let w = wrote-after s u c made a k i .1 (inl (l, refl)) in
+          (w .0, subst (λ (b : ℕ). T (has m′ b)) (sym (w .1)) (is a .1 (t, writer-lacking s (made .sound) u (made .view) k i l n)), n)
+
+  -- and so does one for what was read, as the commit reads only what the view holds
+  pub by-readers : (m : Set) → m < 2 ^ 64 → missing (update s u c) (byReader (update s u c) m) u ≡ missing s (byReader s m) u
+  by-readers m word = missing-same (update s u c) s (byReader (update s u c) m) (byReader s m) u u (keys-after s u c made) (λ k i. (out k i, back k i))
+    where
+      out : (k i : ℕ) → Misses (update s u c) (byReader (update s u c) m) u k i → Misses s (byReader s m) u k i
+      out k i (l, t, n) = let x = meets-is m (version (update s u c) k i .readers) word .0 t in go (x .0) (x .1) (read-after s u c made (x .0) k i .0 (l, x .2))
+        where
+          go : (a : CommitNumber) → T (has m a) → Read s a k i ⊎ ((a ≡ nextNumber s) × T (reads c k) × (i ≡ newest u k)) → Misses s (byReader s m) u k i
+          go a x (inl r) = (r .0, meets-is m (version s k i .readers) word .1 (a, x, r .1), n)
+          go a x (inr (_, r, e)) = absurd (n (rw e (read-held s u c made k r)))
+
+      back : (k i : ℕ) → Misses s (byReader s m) u k i → Misses (update s u c) (byReader (update s u c) m) u k i
+      back k i (l, t, n) =
+          let x = meets-is m (version s k i .readers) word .0 t in
+          let r = read-after s u c made (x .0) k i .1 (inl (l, x .2)) in
+          (r .0, meets-is m (version (update s u c) k i .readers) word .1 (x .0, x .1, r .1), n)
+
+  -- a set of commits, and the lacking ones among them
+  pub among-lacking : (m lacking : Set) → IsSet lacking (Lacking s u) → IsSet (bitAnd m lacking) (λ a. T (has m a) × Lacking s u a)
+  among-lacking m lacking is a = both (both-is m lacking a) (λ (x, y). (x, is a .0 y), λ (x, y). (x, is a .1 y))
+
+  pub all-lacking : (lacking : Set) → IsSet lacking (Lacking s u) → IsSet lacking (λ a. T (has lacking a) × Lacking s u a)
+  all-lacking lacking is a = (λ t. (t, is a .0 t), λ (t, _). t)
+
+-- ---- numbers of clauses
 
 -- the clause of a number is the one that has it
 pub at-clause : (s : Store) (u : View) (c : Commit) (y x : Clause) {clause : ℕ} {p : Option Place} → clauseNumber x ≡ clause → clause ≡ clauseNumber y

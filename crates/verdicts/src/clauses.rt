@@ -1,5 +1,6 @@
 // The clauses, tested on sets of commits: as a view holds all or none of a writer, it misses a version by one of certain commits exactly where one of
 // them is lacking, that is, where the view holds nothing of what it wrote.
+use crate::Hand;
 use crate::Wanted;
 use crate::sources;
 ghost use mathlib.Core.Path.{_≡_};
@@ -79,11 +80,13 @@ fn mark(set: u64, clause: usize, met: u64) -> u64
 }
 
 // The numbers of the clauses that fail.
-pub fn failing(w: Wanted, lost: state::Found, own: state::Found) -> u64
-    ensures { λ r. ⌜ ((s : Store) (u : View) (c : Commit) → AtHand s u c w lost own → FailingClauses s u c r) ⌝ }
+pub fn failing(h: Hand) -> u64
+    ensures { λ r. ⌜ ((s : Store) (u : View) (c : Commit) → AtHand s u c h → FailingClauses s u c r) ⌝ }
 {
+    let w = h.wanted;
+    let lost = h.lost;
     let a = mark(0, 1, found(lost));
-    let b = mark(a, 2, found(own));
+    let b = mark(a, 2, h.session & h.absent);
     let c = mark(b, 3, w.before & w.lacking);
     let d = mark(c, 4, w.read & w.lacking);
     let e = mark(d, 5, w.written & w.lacking);

@@ -1,6 +1,7 @@
-// The verdicts on a commit: which of the eight clauses fail it, and the first failure of each level. A commit is judged before anything of it is
-// applied, so all arrays keep the store before it; `fresh` has the masks of its view after. The arrays are described in crates/state/specs.
-mod clauses;
+// The verdicts on a commit: which of the eight clauses fail it, and the first failure of each level. What clauses 3 to 8 want of the view before is gathered
+// before the commit is made (clauses); it is judged when it is made and its view after is known to be a view, on the arrays that keep the store after it
+// (report). The arrays are described in crates/state/specs.
+pub mod clauses;
 mod missing;
 pub mod report;
 mod sources;
@@ -30,12 +31,20 @@ pub struct Wanted {
     pub snapshot: u64,
 }
 
-// What is at hand where a commit fails some clause: the commits that its view holds, the ranks of its operations, what clauses 1 and 2 miss, and the
-// commits that the others want.
+// The commits of which the view before a commit holds a version, those of which the view after does, and the commit's own number where it writes something.
+pub struct Held {
+    pub before: u64,
+    pub after: u64,
+    pub own: u64,
+}
+
+// What is at hand where a commit is judged: the commits that the view before holds, the ranks of its operations, what clause 1 misses; for clause 2 the commit
+// and those before it in SO, and the commits of which the view after holds nothing; and the commits that the others want.
 pub struct Hand {
     pub seen: u64,
     pub ranks: u64,
     pub lost: state::Found,
-    pub own: state::Found,
+    pub session: u64,
+    pub absent: u64,
     pub wanted: Wanted,
 }

@@ -1,20 +1,23 @@
 // The first failure of each level: the clause (0 while the level has not failed), the record, the key and the version, a table of each with a word for
 // each level in report order.
 use crate::Hand;
+use crate::Held;
+use crate::Wanted;
 use crate::clauses;
 use crate::missing;
 use crate::table;
+use state::CommitNumber;
 ghost use mathlib.Core.Path.{_≡_};
 ghost use mathlib.Core.Option.{Option};
 ghost use mathlib.Core.List.{List};
 ghost use Prim.Native.Nat.{ℕ, _+_, _<_, _≤_};
 ghost use lib.ListN.{length};
 ghost use Rattle.search.specs.Choose.{orElse};
-ghost use Rattle.store.specs.Limits.{maxKeys};
+ghost use Rattle.store.specs.Limits.{maxKeys, numbers};
 ghost use Rattle.store.specs.Store.{Store, View, Commit};
 ghost use Rattle.levels.specs.Level.{Level, clausesOf, Failure, failsClauses};
-ghost use Rattle.state.specs.Room.{VersionsRoom, KeysRoom, CommitsRoom, LinksRoom, FreshRoom};
-ghost use Rattle.verdicts.specs.AtHand.{Judging, BeforeCommit};
+ghost use Rattle.state.specs.Room.{VersionsRoom, KeysRoom, CommitsRoom, FreshRoom};
+ghost use Rattle.verdicts.specs.AtHand.{Judging, AfterCommit};
 ghost use Rattle.verdicts.specs.Verdicts.{levelCount, levelAt, VerdictsRoom, FailingClauses, writtenDown, NotesLevel, KeepsVerdicts};
 
 // What a search by a clause found for a level.
@@ -44,10 +47,11 @@ fn note_level(
     keys: &[u64],
     views: &[u64],
     base: usize,
+    fresh: &[u64],
     n: usize,
 )
-    requires { ⌜ VerdictsRoom (now verdicts) × (level < levelCount) × (n ≤ maxKeys) × VersionsRoom (now versions) × KeysRoom (now keys) × (base + n ≤ length (now views)) ⌝ }
-    ensures { λ _. ⌜ ((s : Store) (u : View) (c : Commit) (values : List ℕ) → Judging s u c h values (now (versions .entry)) (now (keys .entry)) (now (views .entry)) base n → FailingClauses s u c failing → NotesLevel level (failsClauses number s u c (clausesOf (levelAt level))) (now (verdicts .entry)) (now (verdicts .exit))) ⌝ }
+    requires { ⌜ VerdictsRoom (now verdicts) × (level < levelCount) × (n ≤ maxKeys) × VersionsRoom (now versions) × KeysRoom (now keys) × (base + n ≤ length (now views)) × FreshRoom (now fresh) ⌝ }
+    ensures { λ _. ⌜ ((s : Store) (u : View) (c : Commit) (values : List ℕ) → Judging s u c h values (now (versions .entry)) (now (keys .entry)) (now (views .entry)) (now (fresh .entry)) base n → FailingClauses s u c failing → NotesLevel level (failsClauses number s u c (clausesOf (levelAt level))) (now (verdicts .entry)) (now (verdicts .exit))) ⌝ }
 {
     if verdicts[level] != 0 {
         return;
@@ -57,7 +61,7 @@ fn note_level(
         return;
     }
     let clause = sets::lowest(struck);
-    let at = missing::missing_by(clause, h, versions, keys, views, base, n);
+    let at = missing::missing_by(clause, h, versions, keys, views, base, fresh, n);
     write_down(verdicts, level, clause, number, at);
 }
 
@@ -71,10 +75,11 @@ pub fn note(
     keys: &[u64],
     views: &[u64],
     base: usize,
+    fresh: &[u64],
     n: usize,
 )
-    requires { ⌜ VerdictsRoom (now verdicts) × (n ≤ maxKeys) × VersionsRoom (now versions) × KeysRoom (now keys) × (base + n ≤ length (now views)) ⌝ }
-    ensures { λ _. ⌜ ((s : Store) (u : View) (c : Commit) (values : List ℕ) (fs : Level → Option Failure) → Judging s u c h values (now (versions .entry)) (now (keys .entry)) (now (views .entry)) base n → FailingClauses s u c failing → KeepsVerdicts fs (now (verdicts .entry)) → KeepsVerdicts (λ l. orElse (fs l) (failsClauses number s u c (clausesOf l))) (now (verdicts .exit))) ⌝ }
+    requires { ⌜ VerdictsRoom (now verdicts) × (n ≤ maxKeys) × VersionsRoom (now versions) × KeysRoom (now keys) × (base + n ≤ length (now views)) × FreshRoom (now fresh) ⌝ }
+    ensures { λ _. ⌜ ((s : Store) (u : View) (c : Commit) (values : List ℕ) (fs : Level → Option Failure) → Judging s u c h values (now (versions .entry)) (now (keys .entry)) (now (views .entry)) (now (fresh .entry)) base n → FailingClauses s u c failing → KeepsVerdicts fs (now (verdicts .entry)) → KeepsVerdicts (λ l. orElse (fs l) (failsClauses number s u c (clausesOf l))) (now (verdicts .exit))) ⌝ }
 {
     let mut level: usize = 0;
     while level < crate::LEVELS {
@@ -88,50 +93,53 @@ pub fn note(
             keys,
             views,
             base,
+            fresh,
             n,
         );
         level = level + 1;
     }
 }
 
-// Judges a commit before anything of it is applied: the arrays keep the store, the view stands in `views` from `base` on and holds the commits `seen`,
-// `fresh` has the masks of the view after, and `number` is the record's. Where the view after is `plain`, the view before and the commit's own
-// versions, clauses 1 and 2 miss nothing.
+// Judges a commit that is made: the arrays keep the store after it, the view before stands in `views` from `base` on, the view after in `fresh`, and `number` is
+// the record's. `w` are the commits that clauses 3 to 8 want of the view before. Where the view after is `plain`, the view before and the commit's own
+// versions, clause 1 misses nothing.
 pub fn judge(
     verdicts: &mut [u64],
     number: usize,
+    w: Wanted,
     versions: &[u64],
     keys: &[u64],
     commits: &[u64],
-    links: &[u64],
     views: &[u64],
     base: usize,
     fresh: &[u64],
-    seen: u64,
+    held: Held,
     ranks: u64,
     plain: bool,
     n: usize,
+    me: CommitNumber,
 )
-    requires { ⌜ VerdictsRoom (now verdicts) × (n ≤ maxKeys) × VersionsRoom (now versions) × KeysRoom (now keys) × CommitsRoom (now commits) × LinksRoom (now links) × (base + n ≤ length (now views)) × FreshRoom (now fresh) ⌝ }
-    ensures { λ _. ⌜ ((s : Store) (u : View) (c : Commit) (values : List ℕ) (fs : Level → Option Failure) → BeforeCommit s u c (now (versions .entry)) (now (keys .entry)) (now (commits .entry)) (now (links .entry)) (now (views .entry)) (now (fresh .entry)) values seen ranks plain base n → KeepsVerdicts fs (now (verdicts .entry)) → KeepsVerdicts (λ l. orElse (fs l) (failsClauses number s u c (clausesOf l))) (now (verdicts .exit))) ⌝ }
+    requires { ⌜ VerdictsRoom (now verdicts) × (n ≤ maxKeys) × (me .0 < numbers) × VersionsRoom (now versions) × KeysRoom (now keys) × CommitsRoom (now commits) × (base + n ≤ length (now views)) × FreshRoom (now fresh) ⌝ }
+    ensures { λ _. ⌜ ((s : Store) (u : View) (c : Commit) (values : List ℕ) (fs : Level → Option Failure) → AfterCommit s u c w held (now (versions .entry)) (now (keys .entry)) (now (commits .entry)) (now (views .entry)) (now (fresh .entry)) values ranks plain base n (me .0) → KeepsVerdicts fs (now (verdicts .entry)) → KeepsVerdicts (λ l. orElse (fs l) (failsClauses number s u c (clausesOf l))) (now (verdicts .exit))) ⌝ }
 {
     let mut lost = state::Found::Nothing;
-    let mut own = state::Found::Nothing;
     if !plain {
         lost = views::masks::lost(fresh, views, base, n);
-        own = views::missing::least_own(keys, fresh, ranks, n);
     }
-    let w = clauses::wanted(keys, commits, links, seen, ranks, n);
-    let failing = clauses::failing(w, lost, own);
+    let writers = sets::union(sets::union(held.before, w.lacking), held.own);
+    let h = Hand {
+        seen: held.before,
+        ranks,
+        lost,
+        session: sets::insert(commits[state::BEFORE + me.0], me.0),
+        absent: sets::without(writers, held.after),
+        wanted: w,
+    };
+    let failing = clauses::failing(h);
     if failing == 0 {
         return;
     }
-    let h = Hand {
-        seen,
-        ranks,
-        lost,
-        own,
-        wanted: w,
-    };
-    note(verdicts, failing, number, h, versions, keys, views, base, n);
+    note(
+        verdicts, failing, number, h, versions, keys, views, base, fresh, n,
+    );
 }

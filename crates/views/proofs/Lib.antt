@@ -2,7 +2,6 @@ pub mod Tests
 pub mod Codes
 pub mod Looking
 pub mod Words
-pub mod Own
 pub mod Gathered
 pub mod Grown
 pub mod OpeningView

@@ -1,20 +1,24 @@
 -- The search for the first missing version, key by key: at a key the versions that may be missing are a set, and the search looks at its numbers in
 -- order. Assumes nothing.
-use Prim.Native.Nat.{ℕ, _^_, _≤_, _<_}
-use mathlib.Core.Path.{_≡_, sym, _∙_, subst}
+use Prim.Native.Nat.{ℕ, suc, _-_, _/_, _^_, _≤_, _<_}
+use mathlib.Core.Path.{_≡_, sym, ap, _∙_, subst}
 use mathlib.Core.Logic.{_≢_}
 use mathlib.Core.Option.{some, none}
+use native.Mathlib.Nat.{pow-suc}
 use native.Mathlib.Omega.{arith}
 use lib.Dec.{T}
+use lib.Pow.{pow-pos}
 use Rattle.search.proofs.Tests.{stable}
 use Rattle.sets.specs.Set.{has, below, lowest, single, without}
 use Rattle.sets.proofs.Laws.{has-none, has-below, below-has, has-lowest, lowest-least, single-only}
 use Rattle.sets.proofs.Algebra.{without-is, without-word}
-use Rattle.store.specs.Store.{Key, View, Store, count}
+use Rattle.store.specs.Store.{Key, View, Store, count, Commit}
+use Rattle.store.specs.Update.{writes, update}
 use Rattle.store.specs.Missing.{Rule, missing}
 use Rattle.store.specs.Refusal.{allOf}
 use Rattle.store.specs.View.{IsView}
 use Rattle.store.proofs.Missing.{MetAt, missing-none, missing-found}
+use Rattle.store.proofs.Updated.{count-written}
 use Rattle.views.proofs.Tests.{has-as}
 
 -- for proofs alone: at key k the search has yet to look at the versions `left`: all are lacking, and each that is wanted and lacking is among them
@@ -75,6 +79,12 @@ module _ (s : Store) (u : View) (k : Key) where
   pub lost-wanted : (old : View) (mask : ℕ) {view left v : ℕ} → view < 2 ^ 64 → view ≡ old k → left ≡ without view mask → left ≢ 0 → v ≡ lowest left → T (allOf old k v)
   lost-wanted old mask {view} {left} {v} b e q p low =
       has-as v e (without-is view mask v .0 (has-as v q (rw low (has-lowest left (omega arith) (rw q (without-word view mask b))))) .0)
+
+-- half of the full mask of a key that the commit writes is the mask before the commit
+pub half-before : (s : Store) (u : View) (c : Commit) (k : Key) → T (writes c k) → {full : ℕ} → full ≡ below (count (update s u c) k) → full / 2 ≡ below (count s k)
+half-before s u c k w {full} e =
+    let f : full ≡ 2 ^ suc (count s k) - 1 = e ∙ ap below (count-written s u c k w) in
+    omega (arith, pow-suc 2 (count s k), pow-pos (count s k))
 
 -- nothing is missing at any key
 pub missing-nowhere : (s : Store) (want : Rule) (u : View) (n : ℕ) → s .keys ≡ n → ((l : ℕ) → l < n → MetAt s want u l) → none ≡ missing s want u

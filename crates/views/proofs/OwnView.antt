@@ -1,4 +1,4 @@
--- A view after a commit that is the view before and the commit's own versions: clauses 1 and 2 miss nothing of it, codes 10, 11 and 14 are not due,
+-- A view after a commit that is the view before and the commit's own versions: clause 1 misses nothing of it, codes 10, 11 and 14 are not due,
 -- and it holds the commits that were held and, where it writes something, the commit. Assumes nothing.
 use Prim.Native.Nat.{ℕ}
 use mathlib.Core.Path.{_≡_, refl, sym}
@@ -6,15 +6,13 @@ use mathlib.Core.Bool.{not}
 use mathlib.Core.Logic.{_⊎_, inl, inr, _↔_}
 use mathlib.Core.Option.{none}
 use lib.Dec.{T, eqb}
-use Rattle.search.proofs.Tests.{both, same, T?, and-is, or-is, not-is, eq-is}
+use Rattle.search.proofs.Tests.{both, same, and-is, or-is, not-is, eq-is}
 use Rattle.sets.specs.Set.{Set, has, union}
 use Rattle.dependencies.specs.History.{Holds}
 use Rattle.store.specs.Store.{Key, View, Store, count, nextNumber, Commit}
 use Rattle.store.specs.Update.{reads, writes, touches, update}
 use Rattle.store.specs.Missing.{missing}
-use Rattle.store.specs.Links.{wrote}
 use Rattle.store.specs.Refusal.{allOf, badMask, halfHeld, strayAt, stray}
-use Rattle.store.specs.Sound.{SoundStore}
 use Rattle.store.specs.View.{FitsView}
 use Rattle.store.proofs.Missing.{missing-none}
 use Rattle.store.proofs.Legal.{view-is}
@@ -27,20 +25,10 @@ use Rattle.state.proofs.Sets.{isSet-as, isSet-union}
 use Rattle.views.specs.Own.{AddsOwn}
 use Rattle.views.proofs.AddsOwn.{equal-sets}
 use Rattle.views.proofs.Codes.{stray-nowhere}
-use Rattle.views.proofs.Own.{OwnMet, own-unwritten, own-held, own-nowhere}
 
-module _ (s : Store) (u : View) (c : Commit) (sound : SoundStore s) (own : AddsOwn s u c) where
-  -- clause 1
-  pub own-lost-none : none ≡ missing s (allOf u) (c .viewAfter)
-  own-lost-none = sym (missing-none s (allOf u) (c .viewAfter) .1 (λ k i _ _ t. own k i .1 (inl t)))
-
-  -- clause 2
-  pub own-missing-none : none ≡ missing (update s u c) (wrote (update s u c) (nextNumber s)) (c .viewAfter)
-  own-missing-none = own-nowhere s u c sound (s .keys) refl (λ k _. at k (T? (writes c k)))
-    where
-      at : (k : Key) → Dec (T (writes c k)) → OwnMet s u c k
-      at k (yes w) = own-held s u c sound k (own k (count s k) .1 (inr (w, refl)))
-      at k (no n) = own-unwritten s u c sound k n
+-- clause 1
+pub own-lost-none : (s : Store) (u : View) (c : Commit) → AddsOwn s u c → none ≡ missing s (allOf u) (c .viewAfter)
+own-lost-none s u c own = sym (missing-none s (allOf u) (c .viewAfter) .1 (λ k i _ _ t. own k i .1 (inl t)))
 
 module _ (s : Store) (u : View) (c : Commit) (made : Made s u c) (own : AddsOwn s u c) where
   -- codes 10 and 11

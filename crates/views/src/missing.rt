@@ -1,17 +1,15 @@
 // The first version that a rule wants and a view lacks, by key and then version: each clause's search, made where a level fails.
 ghost use mathlib.Core.Path.{_≡_};
 ghost use mathlib.Core.List.{List};
-ghost use Prim.Native.Nat.{ℕ, _+_, _<_, _≤_};
+ghost use Prim.Native.Nat.{ℕ, _+_, _≤_};
 ghost use lib.ListN.{length};
-ghost use Rattle.sets.specs.Set.{below};
-ghost use Rattle.store.specs.Limits.{maxKeys, maxCommits, perKey};
-ghost use Rattle.store.specs.Store.{View, Store, nextNumber, Commit};
+ghost use Rattle.store.specs.Limits.{maxKeys};
+ghost use Rattle.store.specs.Store.{View, Store, Commit};
 ghost use Rattle.store.specs.Update.{update};
-ghost use Rattle.store.specs.Links.{wrote};
 ghost use Rattle.store.specs.Missing.{missing};
-ghost use Rattle.store.specs.Sound.{SoundStore};
-ghost use Rattle.state.specs.Room.{VersionsRoom, KeysRoom, FreshRoom};
-ghost use Rattle.state.specs.Keeps.{KeepsKeys, KeepsMasks, KeepsOperations};
+ghost use Rattle.growth.specs.Made.{Made};
+ghost use Rattle.state.specs.Room.{VersionsRoom, KeysRoom};
+ghost use Rattle.state.specs.Keeps.{KeepsKeys, KeepsOperations};
 ghost use Rattle.state.specs.Answers.{placeOf};
 ghost use Rattle.state.specs.Rows.{RowAt};
 ghost use Rattle.views.specs.Rules.{StoreAndView, byWriter, byReader, ofWritten};
@@ -74,46 +72,18 @@ pub fn least_by_reader(
     found
 }
 
-// The first version of a written key (rank 2 * k + 1) that the view at `base` lacks.
+// Clause 5: the first version of a key that the commit writes (rank 2 * k + 1) that the view at `base` lacks, in the store before the commit. The keys are
+// those after it, where the mask of such a key has one version more: half of it is the mask before.
 pub fn least_absent(keys: &[u64], masks: &[u64], base: usize, ranks: u64, n: usize) -> state::Found
     requires { ⌜ (n ≤ maxKeys) × KeysRoom (now keys) × (base + n ≤ length (now masks)) ⌝ }
-    ensures { λ r. ⌜ ((s : Store) (u : View) → s .keys ≡ n → KeepsKeys s (now (keys .entry)) → RowAt n (now (masks .entry)) base u → placeOf r ≡ missing s (ofWritten ranks) u) ⌝ }
+    ensures { λ r. ⌜ ((s : Store) (u : View) (c : Commit) (values : List ℕ) → Made s u c → s .keys ≡ n → KeepsKeys (update s u c) (now (keys .entry)) → KeepsOperations c ranks values → RowAt n (now (masks .entry)) base u → placeOf r ≡ missing s (ofWritten ranks) u) ⌝ }
 {
     let mut k: usize = 0;
     while k < n {
         if sets::has(ranks, 2 * k + 1) {
-            let left = sets::without(keys[k], masks[base + k]);
+            let left = sets::without(keys[k] / 2, masks[base + k]);
             if left != 0 {
                 return state::Found::At(state::Key(k), state::VersionNumber(sets::lowest(left)));
-            }
-        }
-        k = k + 1;
-    }
-    state::Found::Nothing
-}
-
-// The number of the next version of a key, whose full mask is given: the least that the mask lacks.
-pub fn next_version(full: u64) -> state::VersionNumber
-    ensures { λ r. ⌜ (r .0 < perKey) × ((count : ℕ) → count < perKey → full ≡ below count → r .0 ≡ count) ⌝ }
-{
-    let free = sets::without(sets::below(state::PER_KEY), full);
-    if free == 0 {
-        return state::VersionNumber(0);
-    }
-    state::VersionNumber(sets::lowest(free))
-}
-
-// Clause 2: the first version that the commit appends and the masks lack, where the keys are those before the commit.
-pub fn least_own(keys: &[u64], fresh: &[u64], ranks: u64, n: usize) -> state::Found
-    requires { ⌜ (n ≤ maxKeys) × KeysRoom (now keys) × FreshRoom (now fresh) ⌝ }
-    ensures { λ r. ⌜ ((s : Store) (u : View) (c : Commit) (values : List ℕ) → s .keys ≡ n → SoundStore s → s .commits < maxCommits → KeepsKeys s (now (keys .entry)) → KeepsOperations c ranks values → KeepsMasks n (c .viewAfter) (now (fresh .entry)) → placeOf r ≡ missing (update s u c) (wrote (update s u c) (nextNumber s)) (c .viewAfter)) ⌝ }
-{
-    let mut k: usize = 0;
-    while k < n {
-        if sets::has(ranks, 2 * k + 1) {
-            let v = next_version(keys[k]);
-            if !sets::has(fresh[k], v.0) {
-                return state::Found::At(state::Key(k), v);
             }
         }
         k = k + 1;

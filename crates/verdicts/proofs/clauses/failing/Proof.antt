@@ -10,9 +10,6 @@ found-requires c κs = search needs
 mark-requires : tie.Need-mark-requires
 mark-requires c κs = search needs
 
-found-requires-2 : tie.Need-found-requires-2
-found-requires-2 c κs = search needs
-
 mark-requires-2 : tie.Need-mark-requires-2
 mark-requires-2 c κs = search needs
 
@@ -35,13 +32,9 @@ mark-requires-8 : tie.Need-mark-requires-8
 mark-requires-8 c κs = search needs
 
 returns : tie.Need-returns
-returns c =
-    let entry = c .before .before .before .before .before .before .before .before .before .before .before .before .before .before .before in
-    λ s u commit h.
-    failing-is s u commit (entry .args .w) (entry .args .lost) (entry .args .own) h
-    _ _ _ _ _ _ _ _ _ _ (c .before .before .before .before .before .before .before .before .before .before .before .before .before .before .found .ensures) (c .before .before .before .before .before .before .before .before .before .before .before .before .found2 .ensures)
-    (c .before .before .before .before .before .before .before .before .before .before .before .before .before .mark .ensures) (c .before .before .before .before .before .before .before .before .before .before .before .mark2 .ensures) (c .before .before .before .before .before .before .before .before .before .mark3 .ensures) (c .before .before .before .before .before .before .before .mark4 .ensures)
-    (c .before .before .before .before .before .mark5 .ensures) (c .before .before .before .mark6 .ensures) (c .before .mark7 .ensures) (c .mark8 .ensures)
+returns c = λ s u commit h.
+    failing-is s u commit (c .before .before .before .before .before .before .before .before .before .before .before .before .before .before .before .before .args .h) h _ _ _ _ _ _ _ _ _ (c .before .before .before .before .before .before .before .before .before .before .before .before .before .before .found .ensures)
+    (c .before .before .before .before .before .before .before .before .before .before .before .before .before .mark .ensures) (c .before .before .before .before .before .before .before .before .before .before .before .mark2 .ensures) (c .before .before .before .before .before .before .before .before .before .mark3 .ensures) (c .before .before .before .before .before .before .before .mark4 .ensures) (c .before .before .before .before .before .mark5 .ensures) (c .before .before .before .mark6 .ensures) (c .before .mark7 .ensures) (c .mark8 .ensures)
 
 pub failing-spec : {M : Type 1} → statement M
 failing-spec =
@@ -49,7 +42,6 @@ failing-spec =
     (tie.spec
     found-requires
     mark-requires
-    found-requires-2
     mark-requires-2
     mark-requires-3
     mark-requires-4

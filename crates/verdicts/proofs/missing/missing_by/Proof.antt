@@ -1,17 +1,25 @@
 -- `verdicts::missing::missing_by` meets its contract, one clause to an arm. Assumes nothing.
-use mathlib.Core.Path.{ap, _∙_}
+use Prim.Native.Nat.{_^_, _<_}
+use mathlib.Core.Path.{ap, sym, _∙_}
 use native.Mathlib.Omega.{arith}
 use borrow.Author.Needs.{needs}
 use Rattle.sets.specs.Set.{Set}
+use Rattle.sets.proofs.Algebra.{union-word}
+use Rattle.store.specs.Update.{update}
 use Rattle.store.specs.Missing.{missing}
+use Rattle.growth.proofs.Made.{keys-after}
 use Rattle.levels.specs.Clause.{monotonicReads, readYourWrites, monotonicWrites, writesFollowReads, updateAtomic, consistentPrefix, snapshotIsolation, serialisability}
-use Rattle.views.specs.Rules.{byReader}
-use Rattle.verdicts.proofs.Searches.{before-missing, prefix-missing, snapshot-missing, read-missing, written-missing, lacking-missing, at-clause, last-clause}
+use Rattle.views.specs.Rules.{StoreAndView, byReader}
+use Rattle.views.proofs.Rows.{masks-row}
+use Rattle.verdicts.proofs.Searches.{before-missing, prefix-missing, snapshot-missing, read-missing, written-missing, lacking-missing, session-missing, by-lacking, by-readers, among-lacking, all-lacking, at-clause, last-clause}
 use Rattle.verdicts.proofs.missing.missing_by.Statement.{statement}
 use Rattle.verdicts.proofs.missing.missing_by.Tie as tie
 
 least-by-writer-requires : tie.Need-least-by-writer-requires
 least-by-writer-requires c κs = search needs
+
+least-by-writer-requires-2 : tie.Need-least-by-writer-requires-2
+least-by-writer-requires-2 c κs = search needs
 
 union-requires : tie.Need-union-requires
 union-requires c κs = search needs
@@ -22,76 +30,99 @@ least-by-reader-requires c κs = search needs
 least-absent-requires : tie.Need-least-absent-requires
 least-absent-requires c κs = search needs
 
-least-by-writer-requires-2 : tie.Need-least-by-writer-requires-2
-least-by-writer-requires-2 c κs = search needs
-
 least-by-writer-requires-3 : tie.Need-least-by-writer-requires-3
 least-by-writer-requires-3 c κs = search needs
 
 least-by-writer-requires-4 : tie.Need-least-by-writer-requires-4
 least-by-writer-requires-4 c κs = search needs
 
+least-by-writer-requires-5 : tie.Need-least-by-writer-requires-5
+least-by-writer-requires-5 c κs = search needs
+
 returns : tie.Need-returns
-returns c =
-    λ s u commit values j x e.
-    at-clause s u commit monotonicReads x e (c .match .keys1)
-    (j .at-hand .lost-is)
+returns c = λ s u commit values j x e. at-clause s u commit monotonicReads x e (c .match .keys1) (j .at-hand .lost-is)
 
 returns-2 : tie.Need-returns-2
-returns-2 c =
-    λ s u commit values j x e.
-    at-clause s u commit readYourWrites x e (c .match .keys2)
-    (j .at-hand .own-is)
+returns-2 c = λ s u commit values j x e.
+    let made = j .at-hand .made in
+    let after : StoreAndView (update s u commit) (commit .viewAfter) (c .before .before .before .before .before .before .before .args .n) (c .before .before .before .before .before .before .before .args .versions .now) (c .before .before .before .before .before .before .before .args .keys .now) (c .before .before .before .before .before .before .before .args .fresh .now) 0 = record {
+      number = j .arrays .number;
+      sound = j .arrays .sound;
+      few = j .arrays .few;
+      in-versions = j .arrays .in-versions;
+      in-keys = j .arrays .in-keys;
+      in-masks = masks-row (j .masks);
+    } in
+    at-clause s u commit readYourWrites x e (c .before .match .keys2)
+    (c .least-by-writer .ensures (update s u commit) (commit .viewAfter) after ∙ session-missing s u commit made (c .before .before .before .before .before .before .before .args .h .session) (j .at-hand .session))
 
 returns-3 : tie.Need-returns-3
-returns-3 c =
-    λ s u commit values j x e.
-    at-clause s u commit monotonicWrites x e (c .before .match .keys3)
-    (c .least-by-writer .ensures s u (j .arrays) ∙ before-missing s (j .at-hand .sound) u (j .at-hand .view) commit (c .before .before .before .before .before .before .args .h .wanted .before) (j .at-hand .wants .before))
+returns-3 c = λ s u commit values j x e.
+    let w = c .before .before .before .before .before .before .before .before .args .h .wanted in
+    let made = j .at-hand .made in
+    let wants = j .at-hand .wants in
+    at-clause s u commit monotonicWrites x e (c .before .before .match .keys3)
+    (c .least-by-writer2 .ensures (update s u commit) u (j .arrays) ∙ by-lacking s u commit made (w .before) _ (among-lacking s u commit made (w .before) (w .lacking) (wants .lacking))
+    ∙ before-missing s (made .sound) u (made .view) commit (w .before) (wants .before))
 
 returns-4 : tie.Need-returns-4
-returns-4 c =
-    let entry = c .before .before .before .before .before .before .before in
-    λ s u commit values j x e.
+returns-4 c = λ s u commit values j x e.
+    let h = c .before .before .before .before .before .before .before .before .args .h in
+    let made = j .at-hand .made in
+    let before-fits : h .wanted .before < 2 ^ 64 = omega (arith, c .before .before .before .before .before .before .before .before .good .1 .0) in
+    let seen-fits : h .seen < 2 ^ 64 = omega (arith, c .before .before .before .before .before .before .before .before .good .1 .0) in
     at-clause s u commit writesFollowReads x e (c .before .before .match .keys4)
-    (c .least-by-reader .ensures s u (j .arrays) ∙ ap (λ (m : Set). missing s (byReader s m) u) (c .before .union .ensures) ∙ read-missing s (j .at-hand .sound) u (j .at-hand .view) commit (entry .args .h .wanted .before) (entry .args .h .seen) (omega (arith, entry .good .1 .0)) (omega (arith, entry .good .1 .0)) (j .at-hand .wants .before) (j .holds))
+    (c .least-by-reader .ensures (update s u commit) u (j .arrays) ∙ ap (λ (m : Set). missing (update s u commit) (byReader (update s u commit) m) u) (c .before .union .ensures)
+    ∙ by-readers s u commit made _ (union-word (h .wanted .before) (h .seen) before-fits seen-fits)
+    ∙ read-missing s (made .sound) u (made .view) commit (h .wanted .before) (h .seen) before-fits seen-fits (j .at-hand .wants .before) (j .holds))
 
 returns-5 : tie.Need-returns-5
-returns-5 c =
-    λ s u commit values j x e.
+returns-5 c = λ s u commit values j x e.
+    let made = j .at-hand .made in
     at-clause s u commit updateAtomic x e (c .before .match .keys5)
-    (c .least-absent .ensures s u (j .arrays .number) (j .arrays .in-keys) (j .arrays .in-masks) ∙ written-missing s (j .at-hand .sound) u (j .at-hand .view) commit (c .before .before .before .before .before .before .args .h .ranks) values (j .operations))
+    (c .least-absent .ensures s u commit values made (sym (keys-after s u commit made) ∙ j .arrays .number) (j .arrays .in-keys) (j .operations) (j .arrays .in-masks)
+    ∙ written-missing s (made .sound) u (made .view) commit (c .before .before .before .before .before .before .before .args .h .ranks) values (j .operations))
 
 returns-6 : tie.Need-returns-6
-returns-6 c =
-    λ s u commit values j x e.
-    at-clause s u commit consistentPrefix x e (c .before .match .keys6)
-    (c .least-by-writer2 .ensures s u (j .arrays) ∙ prefix-missing s (j .at-hand .sound) u (j .at-hand .view) commit (c .before .before .before .before .before .before .args .h .wanted .prefix) (j .at-hand .wants .prefix))
+returns-6 c = λ s u commit values j x e.
+    let w = c .before .before .before .before .before .before .before .before .args .h .wanted in
+    let made = j .at-hand .made in
+    let wants = j .at-hand .wants in
+    at-clause s u commit consistentPrefix x e (c .before .before .match .keys6)
+    (c .least-by-writer3 .ensures (update s u commit) u (j .arrays) ∙ by-lacking s u commit made (w .prefix) _ (among-lacking s u commit made (w .prefix) (w .lacking) (wants .lacking))
+    ∙ prefix-missing s (made .sound) u (made .view) commit (w .prefix) (wants .prefix))
 
 returns-7 : tie.Need-returns-7
-returns-7 c =
-    λ s u commit values j x e.
-    at-clause s u commit snapshotIsolation x e (c .before .match .keys7)
-    (c .least-by-writer3 .ensures s u (j .arrays) ∙ snapshot-missing s (j .at-hand .sound) u (j .at-hand .view) commit (c .before .before .before .before .before .before .args .h .wanted .snapshot) (j .at-hand .wants .snapshot))
+returns-7 c = λ s u commit values j x e.
+    let w = c .before .before .before .before .before .before .before .before .args .h .wanted in
+    let made = j .at-hand .made in
+    let wants = j .at-hand .wants in
+    at-clause s u commit snapshotIsolation x e (c .before .before .match .keys7)
+    (c .least-by-writer4 .ensures (update s u commit) u (j .arrays) ∙ by-lacking s u commit made (w .snapshot) _ (among-lacking s u commit made (w .snapshot) (w .lacking) (wants .lacking))
+    ∙ snapshot-missing s (made .sound) u (made .view) commit (w .snapshot) (wants .snapshot))
 
 returns-8 : tie.Need-returns-8
-returns-8 c =
-    λ s u commit values j x e.
+returns-8 c = λ s u commit values j x e.
     let r = c .before .match .rest in
+    let lacking = c .before .before .before .before .before .before .before .args .h .wanted .lacking in
+    let made = j .at-hand .made in
+    let is = j .at-hand .wants .lacking in
     at-clause s u commit serialisability x e (last-clause x e (r .0 .0 .0 .0 .0 .0 .1) (r .0 .0 .0 .0 .0 .1) (r .0 .0 .0 .0 .1) (r .0 .0 .0 .1) (r .0 .0 .1) (r .0 .1) (r .1))
-    (c .least-by-writer4 .ensures s u (j .arrays) ∙ lacking-missing s (j .at-hand .sound) u (j .at-hand .view) commit (c .before .before .before .before .before .before .args .h .wanted .lacking) (j .at-hand .wants .lacking))
+    (c .least-by-writer5 .ensures (update s u commit) u (j .arrays) ∙ by-lacking s u commit made lacking lacking (all-lacking s u commit made lacking is)
+    ∙ lacking-missing s (made .sound) u (made .view) commit lacking is)
 
 pub missing-by-spec : {M : Type 1} → statement M
 missing-by-spec =
     tie.close
     (tie.spec
     least-by-writer-requires
+    least-by-writer-requires-2
     union-requires
     least-by-reader-requires
     least-absent-requires
-    least-by-writer-requires-2
     least-by-writer-requires-3
     least-by-writer-requires-4
+    least-by-writer-requires-5
     returns
     returns-2
     returns-3

@@ -1,50 +1,72 @@
 -- `verdicts::report::judge` meets its contract. Assumes nothing.
-use mathlib.Core.Path.{ap, _∙_}
+use mathlib.Core.Path.{_≡_, ap, sym, _∙_}
 use mathlib.Core.List.{List}
 use mathlib.Core.Logic.{⊎-elim}
 use Prim.Native.Nat.{ℕ}
+use native.Mathlib.Omega.{arith}
 use borrow.Author.Needs.{needs}
 use Rattle.store.specs.Store.{Store, View, Commit}
+use Rattle.store.specs.Missing.{missing}
+use Rattle.store.specs.Refusal.{allOf}
 use Rattle.state.specs.Answers.{placeOf}
-use Rattle.verdicts.specs.AtHand.{BeforeCommit}
-use Rattle.verdicts.proofs.Judged.{Searched, plain-searched, at-hand, judging, no-clause-fails}
+use Rattle.sets.specs.Set.{union, without}
+use Rattle.verdicts.specs.AtHand.{AtHand, Judging, AfterCommit}
+use Rattle.verdicts.proofs.Judged.{plain-lost, keys-are, at-hand, judging, no-clause-fails}
 use Rattle.verdicts.proofs.report.judge.Statement.{statement}
 use Rattle.verdicts.proofs.report.judge.Tie as tie
+
+-- what is given where the function begins
+abbrev Given : tie.Start → Store → View → Commit → List ℕ → Type 0
+Given c s u commit values =
+    let a = c .args in
+    AfterCommit s u commit (a .w) (a .held) (a .versions .now) (a .keys .now) (a .commits .now) (a .views .now) (a .fresh .now) values (a .ranks) (a .plain) (a .base) (a .n) (a .me .0)
+
+-- what clause 1 misses, where it was searched for and where not
+searched : (c : tie.Joined1) (s : Store) (u : View) (commit : Commit) (values : List ℕ) → Given (c .before .before .before .before .before .before .before) s u commit values
+    → placeOf (c .if1 .lost) ≡ missing s (allOf u) (commit .viewAfter)
+searched c s u commit values b =
+    ⊎-elim
+    (λ w. ap placeOf (w .2) ∙ w .1 .ensures s u (commit .viewAfter) (keys-are b) (b .made .view) (b .arrays .in-masks) (b .masks))
+    (λ w. plain-lost b (w .0 .left) (w .1))
+    (c .if1 .came)
 
 lost-requires : tie.Need-lost-requires
 lost-requires c κs = search needs
 
-least-own-requires : tie.Need-least-own-requires
-least-own-requires c κs = search needs
+union-requires : tie.Need-union-requires
+union-requires c κs = search needs
 
--- where the searches were made, and where they were not
-searched : (c : tie.Joined1) (s : Store) (u : View) (commit : Commit) (values : List ℕ)
-    → BeforeCommit s u commit (c .before .before .before .before .before .before .before .before .args .versions .now) (c .before .before .before .before .before .before .before .before .args .keys .now) (c .before .before .before .before .before .before .before .before .args .commits .now) (c .before .before .before .before .before .before .before .before .args .links .now) (c .before .before .before .before .before .before .before .before .args .views .now) (c .before .before .before .before .before .before .before .before .args .fresh .now) values (c .before .before .before .before .before .before .before .before .args .seen) (c .before .before .before .before .before .before .before .before .args .ranks) (c .before .before .before .before .before .before .before .before .args .plain) (c .before .before .before .before .before .before .before .before .args .base) (c .before .before .before .before .before .before .before .before .args .n)
-    → Searched s u commit (c .if1 .lost) (c .if1 .own)
-searched c s u commit values b =
-    ⊎-elim
-    (λ w. (
-      ap placeOf (w .3) ∙ w .1 .ensures s u (commit .viewAfter) (b .arrays .number) (b .view) (b .arrays .in-masks) (b .masks),
-      ap placeOf (w .4) ∙ w .2 .ensures s u commit values (b .arrays .number) (b .arrays .sound) (b .another) (b .arrays .in-keys) (b .operations) (b .masks),
-    ))
-    (λ w. plain-searched b (w .0 .left) (w .1) (w .2))
-    (c .if1 .came)
+union-requires-2 : tie.Need-union-requires-2
+union-requires-2 c κs = search needs
 
-wanted-requires : tie.Need-wanted-requires
-wanted-requires c κs = search needs
+add-insert : tie.Need-add-insert
+add-insert c = search needs
+
+mul-insert : tie.Need-mul-insert
+mul-insert c = search needs
+
+shared-slice-read-insert : tie.Need-shared-slice-read-insert
+shared-slice-read-insert c = search needs
+
+insert-requires : tie.Need-insert-requires
+insert-requires c κs = search needs
+
+without-requires : tie.Need-without-requires
+without-requires c κs = search needs
 
 failing-requires : tie.Need-failing-requires
 failing-requires c κs = search needs
 
+-- what is at hand where the clauses were tested
+hand : (c : tie.After-failing) (s : Store) (u : View) (commit : Commit) (values : List ℕ) → Given (c .before .before .before .before .before .before .before .before .before .before .before .before .before .before) s u commit values
+    → Judging s u commit (record { seen = c .before .before .before .before .before .before .before .before .before .before .before .before .before .before .args .held .before; ranks = c .before .before .before .before .before .before .before .before .before .before .before .before .before .before .args .ranks; lost = c .before .before .before .before .before .before .before .if1 .lost; session = c .before .before .insert .result; absent = c .before .without .result; wanted = c .before .before .before .before .before .before .before .before .before .before .before .before .before .before .args .w })
+    values (c .before .before .before .before .before .before .before .before .before .before .before .before .before .before .args .versions .now) (c .before .before .before .before .before .before .before .before .before .before .before .before .before .before .args .keys .now) (c .before .before .before .before .before .before .before .before .before .before .before .before .before .before .args .views .now) (c .before .before .before .before .before .before .before .before .before .before .before .before .before .before .args .fresh .now) (c .before .before .before .before .before .before .before .before .before .before .before .before .before .before .args .base) (c .before .before .before .before .before .before .before .before .before .before .before .before .before .before .args .n)
+hand c s u commit values b =
+    judging b (c .before .before .before .before .before .before .before .if1 .lost) (searched (c .before .before .before .before .before .before .before) s u commit values b) (c .before .before .insert .ensures) (search needs)
+    (c .before .without .ensures ∙ ap (λ (m : ℕ). without m (c .before .before .before .before .before .before .before .before .before .before .before .before .before .before .args .held .after)) (c .before .before .before .before .before .union2 .ensures ∙ ap (λ (m : ℕ). union m (c .before .before .before .before .before .before .before .before .before .before .before .before .before .before .args .held .own)) (c .before .before .before .before .before .before .union .ensures)))
+
 returns : tie.Need-returns
-returns c =
-    λ s u commit values fs b k.
-    no-clause-fails _ s u commit
-    (c .before .failing .ensures s u commit
-    (at-hand b (c .before .before .wanted .result) (c .before .before .before .if1 .lost) (c .before .before .before .if1 .own)
-    (c .before .before .wanted .ensures s u commit values (b .arrays .number) (b .arrays .sound) (b .arrays .in-keys) (b .in-commits) (b .in-links) (b .operations) (b .holds))
-    (searched (c .before .before .before) s u commit values b)))
-    (c .if2 .taken) fs k
+returns c = λ s u commit values fs b k. no-clause-fails _ s u commit (c .before .failing .ensures s u commit (hand (c .before) s u commit values b .at-hand)) (c .if2 .taken) fs k
 
 note-requires : tie.Need-note-requires
 note-requires c κs = search needs
@@ -53,12 +75,8 @@ same-length : tie.Need-same-length
 same-length c = search needs
 
 returns-2 : tie.Need-returns-2
-returns-2 c =
-    λ s u commit values fs b k.
-    let j =
-    judging b (c .before .before .before .before .before .before .wanted .result) (c .before .before .before .before .before .before .before .if1 .lost) (c .before .before .before .before .before .before .before .if1 .own)
-    (c .before .before .before .before .before .before .wanted .ensures s u commit values (b .arrays .number) (b .arrays .sound) (b .arrays .in-keys) (b .in-commits) (b .in-links) (b .operations) (b .holds))
-    (searched (c .before .before .before .before .before .before .before) s u commit values b) in
+returns-2 c = λ s u commit values fs b k.
+    let j = hand (c .before .before .before .before .before) s u commit values b in
     c .before .before .note .ensures s u commit values fs j (c .before .before .before .before .before .failing .ensures s u commit (j .at-hand)) k
 
 pub judge-spec : {M : Type 1} → statement M
@@ -66,8 +84,13 @@ judge-spec =
     tie.close
     (tie.spec
     lost-requires
-    least-own-requires
-    wanted-requires
+    union-requires
+    union-requires-2
+    add-insert
+    mul-insert
+    shared-slice-read-insert
+    insert-requires
+    without-requires
     failing-requires
     returns
     note-requires

@@ -11,13 +11,13 @@ use Rattle.verdicts.proofs.report.note.Statement.{statement}
 use Rattle.verdicts.proofs.report.note.Tie as tie
 
 abbrev Inv-loop : tie.InvT-loop
-Inv-loop verdicts₀ failing number h versions keys views base n level₀ verdicts level =
+Inv-loop verdicts₀ failing number h versions keys views base fresh n level₀ verdicts level =
     (level ≤ levelCount) × VerdictsRoom verdicts
-    × ((s : Store) (u : View) (c : Commit) (values : List ℕ) → Judging s u c h values versions keys views base n → FailingClauses s u c failing
+    × ((s : Store) (u : View) (c : Commit) (values : List ℕ) → Judging s u c h values versions keys views fresh base n → FailingClauses s u c failing
     → Noted (λ i. failsClauses number s u c (clausesOf (levelAt i))) level verdicts₀ verdicts)
 
 abbrev μ-loop : tie.MeasureT-loop
-μ-loop verdicts₀ failing number h versions keys views base n level₀ verdicts level = levelCount - level
+μ-loop verdicts₀ failing number h versions keys views base fresh n level₀ verdicts level = levelCount - level
 
 loop-holds : tie.Need-loop-holds Inv-loop μ-loop
 loop-holds c = (search needs, search needs, λ s u commit values j h. noted-none _ _)
@@ -41,7 +41,7 @@ same-length c = search needs
 returns : tie.Need-returns Inv-loop μ-loop
 returns c =
     λ s u commit values fs j h k.
-    noted-all (λ l. failsClauses (c .before .before .before .before .before .before .args .number) s u commit (clausesOf l)) (c .before .loop .inv .2 s u commit values j h) (search needs) (c .before .loop .inv .1) fs k
+    noted-all (λ l. failsClauses (c .before .before .before .before .before .before .before .args .number) s u commit (clausesOf l)) (c .before .loop .inv .2 s u commit values j h) (search needs) (c .before .loop .inv .1) fs k
 
 pub note-spec : {M : Type 1} → statement M
 note-spec =

@@ -23,7 +23,7 @@ clauses-of-requires c κs = search needs
 
 returns-2 : tie.Need-returns-2
 returns-2 c =
-    let entry = c .before .before .before .before .before .before .before .before in
+    let entry = c .before .before .before .before .before .before .before .before .before in
     λ s u commit values j h.
     nothing-new _ _
     (level-passes (entry .args .number) s u commit (entry .args .failing) h (entry .args .level)
@@ -43,7 +43,7 @@ same-length c = search needs
 
 returns-3 : tie.Need-returns-3
 returns-3 c =
-    let entry = c .before .before .before .before .before .before .before .before .before .before .before .before .before .before in
+    let entry = c .before .before .before .before .before .before .before .before .before .before .before .before .before .before .before in
     λ s u commit values j h.
     takes-failure (entry .args .number) s u commit (entry .args .failing) h (entry .args .level) (search needs)
     (c .before .before .before .before .missing-by .result) (search needs) (search needs)
