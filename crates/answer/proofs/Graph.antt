@@ -2,25 +2,21 @@
 -- this the store meets the hypotheses of dependencies. Assumes nothing.
 use Prim.Native.Nat.{ℕ, _≤_, _<_}
 use native.Mathlib.Omega.{arith}
-use mathlib.Core.Path.{_≡_, refl, sym, _∙_, subst}
+use mathlib.Core.Path.{_≡_, refl, sym, _∙_}
 use mathlib.Core.Logic.{_⊎_, inl, inr}
-use lib.Dec.{T, ltb}
+use lib.Dec.{T}
 use Rattle.sets.specs.Set.{has}
-use Rattle.sets.proofs.Laws.{has-none, has-large, has-highest, highest-most}
+use Rattle.sets.proofs.Laws.{has-large, has-highest, highest-most}
 use Rattle.dependencies.proofs.Growth.{OwnWrite, OwnRead, Grown}
-use Rattle.store.specs.Store.{Key, Version, View, Store, Configuration, openingStore, opening, count, nextNumber, Commit}
-use Rattle.store.specs.Update.{reads, writes, newest, update, viewBefore, storeAfter}
+use Rattle.store.specs.Store.{Key, View, Store, Configuration, count, nextNumber, Commit}
+use Rattle.store.specs.Update.{reads, writes, newest, viewBefore, storeAfter}
 use Rattle.store.specs.History.{Wrote, Read, history, held}
-use Rattle.store.proofs.Updated.{at-same, at-other, wrote-update, read-update}
+use Rattle.store.proofs.Updated.{wrote-update, read-update}
 use Rattle.store.specs.Sound.{Sound, WithinKeys}
 use Rattle.store.specs.Legal.{LegalCommit}
-use Rattle.store.proofs.Sound.{opening-first, sound-opening}
 use Rattle.store.proofs.Links.{reads-written, appears-stored, stored-below}
-
--- the new commit stands in the table with its client
-pub new-client : (g : Configuration) (c : Commit) → storeAfter g c .clientOf (nextNumber (g .store)) ≡ c .client
-unfolding update
-new-client g c = at-same (nextNumber (g .store)) (c .client) (g .store .clientOf)
+use Rattle.growth.specs.Made.{Made}
+use Rattle.growth.proofs.Made.{legal-made, client-kept, client-new, session-kept, session-new}
 
 module _ (g : Configuration) (c : Commit) (h : Sound g) (f : WithinKeys (g .store .keys) c) (l : LegalCommit g c) where
   abbrev s : Store
@@ -28,6 +24,9 @@ module _ (g : Configuration) (c : Commit) (h : Sound g) (f : WithinKeys (g .stor
 
   abbrev u : View
   u = viewBefore g c
+
+  pub made : Made (g .store) (viewBefore g c) c
+  made = legal-made h f l
 
   -- a key that is read has a mask that holds version 0, so the newest is in it
   newest-held : (k : Key) → T (reads c k) → T (has (u k) (newest u k)) × ((j : ℕ) → T (has (u k) j) → j ≤ newest u k)
@@ -38,19 +37,17 @@ module _ (g : Configuration) (c : Commit) (h : Sound g) (f : WithinKeys (g .stor
 
   -- what a legal commit adds to the history
   pub commit-grows : Grown (history s) (history (storeAfter g c)) (held u) (nextNumber s) (λ k. T (writes c k))
-  unfolding update
   commit-grows = record {
     stored-before = stored-below s (h .store);
-    client-kept = λ a m. at-other (nextNumber s) (c .client) (s .clientOf) a (omega arith);
-    session-kept = λ a m. at-other (nextNumber s) (c .session) (s .sessionOf) a (omega arith);
+    client-kept = λ a m. client-kept s u c made (omega arith);
+    session-kept = λ a m. session-kept s u c made (omega arith);
     written-after = λ a k i w. own-write a k i (wrote-update s u c a k i w);
     read-after = λ a k i r. own-read a k i (read-update s u c a k i r);
     one-write = λ k i j w w′. write-last k i w ∙ sym (write-last k j w′);
     reads-written = reads-written s;
     view-written = λ k i x. (_, (h .views (c .client) .exist k i x, refl));
     atomic = λ a (k, i, x, w) k′ i′ w′. h .views (c .client) .whole a k i k′ i′ x w w′;
-    session-grows = λ a (st, p, e).
-        rw (at-same (nextNumber s) (c .session) (s .sessionOf)) (l .newer a (appears-stored s a .1 st) p (e ∙ new-client g c));
+    session-grows = λ a (st, p, e). rw (session-new s u c made) (l .newer a (appears-stored s a .1 st) p (e ∙ client-new s u c made));
   }
     where
       own-write : (a k i : ℕ) → Wrote s a k i ⊎ ((a ≡ nextNumber s) × T (writes c k) × (i ≡ count s k))

@@ -4,8 +4,10 @@ pub mod Taken
 pub mod Orders
 pub mod Graph
 pub mod Rings
+pub mod OwnWrites
 pub mod FullView
 pub mod Replayed
 pub mod ReplayFile
 pub mod Demand3
+pub mod EarlierRule
 pub mod Written

@@ -44,7 +44,7 @@ each-later a P g (commit c ∷ es) l = (λ m. absurd (omega arith), each-later a
 
 module _ (l : Level) where
   -- the failure of a commit at record n; the first failure from record n on, and the number that it counts as
-  abbrev failure-at : ℕ → Configuration → Commit → Option Failure
+  abbrev pub failure-at : ℕ → Configuration → Commit → Option Failure
   failure-at n g c = failsClauses n (g .store) (viewBefore g c) c (clausesOf l)
 
   abbrev failure-from : ℕ → Configuration → List Event → Option Failure
@@ -53,7 +53,7 @@ module _ (l : Level) where
   abbrev fails-from : ℕ → Configuration → List Event → ℕ
   fails-from n g es = failingCommit (failure-from n g es) (final g es .store .commits)
 
-  no-failure-is : (n : ℕ) (g : Configuration) (c : Commit) → Sound g → WithinKeys (g .store .keys) c
+  pub no-failure-is : (n : ℕ) (g : Configuration) (c : Commit) → Sound g → WithinKeys (g .store .keys) c
       → (failure-at n g c ≡ none) ↔ Passes l g c
   no-failure-is n g c h f =
       fails-none n (g .store) (viewBefore g c) c (h .store) (h .views (c .client))

@@ -2,10 +2,11 @@
 -- walks: under snapshot isolation without closed walks of clause 7's steps, with each client's view holding what its commits wrote and
 -- read; under serialisability without closed walks of any links. Assumes nothing.
 use Prim.Native.Nat.{ℕ}
-use native.Mathlib.Decide.{ℕ-discrete}
-use mathlib.Core.Path.{_≡_, sym, ap, _∙_, subst}
+use mathlib.Core.Path.{_≡_, sym, subst}
 use mathlib.Core.List.{List}
-use lib.Dec.{T}
+use lib.Dec.{T, eqb}
+use Rattle.search.proofs.Choose.{choose-ind}
+use Rattle.search.proofs.Tests.{eq-is}
 use Rattle.relations.specs.Walk.{Ring, sideBySideInRing}
 use Rattle.relations.proofs.Walks.{Acyclic}
 use Rattle.dependencies.specs.History.{History, SnapshotStep}
@@ -18,7 +19,7 @@ use Rattle.dependencies.proofs.Rings.{LinkThat, rings-have-RW-side-by-side, no-
 use Rattle.store.specs.Store.{Key, Client, CommitNumber, View, Configuration, opening, nextNumber, Commit, shift, commit}
 use Rattle.store.specs.Update.{writes, atNumber, viewBefore, storeAfter, step, final}
 use Rattle.store.specs.Links.{LinkKind, isRW}
-use Rattle.store.proofs.Updated.{at-same, at-other}
+use Rattle.store.proofs.Updated.{at-same}
 use Rattle.store.specs.Sound.{Sound, WithinKeys}
 use Rattle.store.specs.Legal.{LegalShift, LegalCommit}
 use Rattle.store.proofs.Sound.{sound-opening}
@@ -33,22 +34,18 @@ use Rattle.answer.specs.Answer.{finalStore}
 use Rattle.answer.specs.Demand3.{Accepts, LinkOf}
 use Rattle.answer.proofs.Taken.{Taken, sound-final}
 use Rattle.answer.proofs.Orders.{accepts-each}
-use Rattle.answer.proofs.Graph.{new-client, commit-grows}
+use Rattle.growth.proofs.Made.{client-new}
+use Rattle.answer.proofs.Graph.{made, commit-grows}
 
 -- the versions that each client's view holds
 abbrev views-of : Configuration → Client → D.Held
 views-of g d = held (g .views d)
 
 -- a client's view replaced by one that holds at least as much: all views hold at least as much as before
-views-grow : (views : Client → View) (d : Client) (u : View) → ((k i : ℕ) → held (views d) k i → held u k i)
+pub views-grow : (views : Client → View) (d : Client) (u : View) → ((k i : ℕ) → held (views d) k i → held u k i)
     → Grow (λ e. held (views e)) (λ e. held (atNumber d u views e))
-views-grow views d u more e k i x = go (ℕ-discrete e d)
-  where
-    go : Dec (e ≡ d) → held (atNumber d u views e) k i
-    go (yes q) =
-        subst (λ (v : View). held v k i) (sym (ap (atNumber d u views) q ∙ at-same d u views))
-        (more k i (subst (λ (y : Client). held (views y) k i) q x))
-    go (no n) = subst (λ (v : View). held v k i) (sym (at-other d u views e n)) x
+views-grow views d u more e k i x =
+    choose-ind (λ (v : View). held v k i) (eqb e d) u (views e) (λ q. more k i (subst (λ (y : Client). held (views y) k i) (eq-is e d .0 q) x)) (λ _. x)
 
 -- what holds of a configuration where each commit so far passed snapshot isolation
 record SnapshotGraph (g : Configuration) : Type 0 where
@@ -90,15 +87,18 @@ module _ (g : Configuration) (c : Commit) (h : Sound g) (f : WithinKeys (g .stor
   grown : Grown H H′ (held (viewBefore g c)) t Writes
   grown = commit-grows g c h f l
 
+  is-client : H′ .clientOf t ≡ c .client
+  is-client = client-new (g .store) (viewBefore g c) c (made g c h f l)
+
   -- snapshot isolation: clause 1 makes the views grow, by clause 2 the client's view holds what the commit wrote, and 5 and 7 close no walk
   snapshot-commit : Passes SI g c → SnapshotGraph g → SnapshotGraph (step g (commit c))
   unfolding step
   snapshot-commit (mr, (ryw, (ua, (si, _)))) i = record {
-    owned = owned-commit H H′ (views-of g) t (c .client) (new-client g c) (i .owned) Writes grown
+    owned = owned-commit H H′ (views-of g) t (c .client) is-client (i .owned) Writes grown
         (λ d. held (atNumber (c .client) (c .viewAfter) (g .views) d)) (views-grow (g .views) (c .client) (c .viewAfter) mr)
         (λ k j w. subst (λ (v : View). held v k j) (sym (at-same (c .client) (c .viewAfter) (g .views))) (ryw .0 k j w));
     acyclic = snapshot-stays-acyclic H H′ (held (viewBefore g c)) t Writes grown ua si
-        (owned-owns H H′ (views-of g) t (c .client) (new-client g c) (i .owned)) (i .acyclic);
+        (owned-owns H H′ (views-of g) t (c .client) is-client (i .owned)) (i .acyclic);
   }
 
   -- serialisability

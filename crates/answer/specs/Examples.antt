@@ -179,7 +179,7 @@ traceH = record {
 
 -- "a client writes key 0, then reads 1 from it and ends with {0}: RYW now fails at record 2, clause 2, key 0, version 1 .. MR fails there as before, by
 -- clause 1" (02, E4)
-abbrev traceL : Row
+abbrev pub traceL : Row
 traceL = record {
   trace = record {
     keys = 1;

@@ -4,3 +4,4 @@ pub mod Replay
 pub mod Demand3
 pub mod Written
 pub mod Examples
+pub mod EarlierRule
