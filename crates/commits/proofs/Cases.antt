@@ -1,7 +1,7 @@
 -- The codes of a commit, case by case. Assumes nothing.
 use Prim.Native.Nat.{ℕ, _+_, _*_, _≤_, _<_}
 use mathlib.Core.Path.{_≡_, refl, sym, ap, _∙_, subst}
-use mathlib.Core.Bool.{_&&_}
+use mathlib.Core.Bool.{Bool, _&&_}
 use mathlib.Core.Logic.{_↔_}
 use mathlib.Core.Option.{Option, some, none}
 use mathlib.Core.List.{List, [], _∷_}
@@ -10,7 +10,7 @@ use lib.Dec.{T, eqb, ltb, leb}
 use lib.ListN.{getD, set}
 use Rattle.search.specs.Choose.{mapSome, when, orElse, firstSome}
 use Rattle.search.specs.Search.{any}
-use Rattle.search.proofs.Tests.{both, and-is, eq-is, lt-is, le-is, T-true, T-false}
+use Rattle.search.proofs.Tests.{both, and-is, eq-is, lt-is, le-is, T-true, T-false, orElse-none}
 use Rattle.search.proofs.Search.{any-is}
 use Rattle.dependencies.specs.History as D
 use Rattle.sets.specs.Set.{Set}
@@ -22,11 +22,11 @@ use Rattle.store.specs.Links.{stored}
 use Rattle.store.specs.Refusal.{Refusal, refuse, refuseKey, refusePlace, notAbove, oldNumber, wrongRead, stray, refusesEvent}
 use Rattle.store.specs.Sound.{SoundStore, Sound}
 use Rattle.store.specs.History.{Appears, history, held}
-use Rattle.store.specs.View.{FitsView}
+use Rattle.store.specs.View.{IsView, FitsView}
 use Rattle.store.proofs.Sound.{view-of-grown-store}
-use Rattle.store.proofs.Legal.{stored-is, appears-lt}
+use Rattle.store.proofs.Legal.{stored-is, appears-lt, view-is}
 use Rattle.store.proofs.Links.{appears-stored}
-use Rattle.growth.specs.Made.{Made}
+use Rattle.growth.specs.Made.{Made, Writes}
 use Rattle.growth.proofs.Made.{keys-after, sound-after, number-after}
 use Rattle.growth.proofs.Ordered.{ordered-commit}
 use Rattle.growth.proofs.Views.{holds-kept}
@@ -36,9 +36,13 @@ use Rattle.state.proofs.Sets.{isSet-as}
 use Rattle.views.specs.Rows.{Kept}
 use Rattle.views.specs.Viewed.{NewMasks}
 use Rattle.shifts.specs.Outcomes.{maskRefusal}
-use Rattle.shifts.proofs.Refused.{third-or}
+use Rattle.shifts.proofs.Refused.{good-masks, third-or}
 use Rattle.shifts.proofs.Replaced.{commit-replaces}
-use Rattle.commits.specs.Codes.{earlyRefusal, lateRefusal, EarlyGiven, LateGiven}
+use Rattle.levels.specs.Level.{Level, Failure, failsEvent, failsClauses, clausesOf}
+use Rattle.verdicts.specs.declared.Wanted.{Wanted}
+use Rattle.verdicts.specs.AtHand.{AfterCommit}
+use Rattle.verdicts.specs.Verdicts.{KeepsVerdicts}
+use Rattle.commits.specs.Codes.{earlyRefusal, lateRefusal, EarlyGiven, LateGiven, JudgeGiven}
 
 -- five answers in a row: the first two, and then the other three
 two-then-three : {A : Type 0} (a b c d e : Option A) → firstSome (a ∷ b ∷ c ∷ d ∷ e ∷ []) ≡ orElse (firstSome (a ∷ b ∷ [])) (orElse (firstSome (c ∷ d ∷ [])) e)
@@ -102,6 +106,13 @@ module _ (i : ℕ) (g : Configuration) (c : Commit) where
   unfolding lateRefusal orElse mapSome
   late-stray e d q = rw (q, e, d)
 
+  -- no code is due: the view after is a view
+  pub late-view : Made (g .store) (viewBefore g c) c → none ≡ lateRefusal i g c → IsView (storeAfter g c) (c .viewAfter)
+  unfolding lateRefusal
+  late-view made e =
+      let m = orElse-none (maskRefusal i (storeAfter g c) (c .viewAfter)) (mapSome (refuseKey 14 i) (stray (g .store) (viewBefore g c) c)) .0 (sym e) .0 in
+      view-is (storeAfter g c) (sound-after (g .store) (viewBefore g c) c made) (c .viewAfter) (rw (keys-after (g .store) (viewBefore g c) c made) (made .fits .after)) .0 (good-masks i _ _ m)
+
   pub late-none : maskRefusal i (storeAfter g c) (c .viewAfter) ≡ none → stray (g .store) (viewBefore g c) c ≡ none → none ≡ lateRefusal i g c
   unfolding lateRefusal orElse mapSome
   late-none e d = rw (e, d)
@@ -140,6 +151,32 @@ module _ {g : Configuration} {c : Commit} {values versions keys fresh views seen
       subst (λ (d : ℕ). KeepsViews (step g (commit c)) views′ (set seen d m)) (l .client-is)
       (commit-replaces g c n (l .sound) (l .made) few (l .keys-are) own views views′ seen fresh m (l .in-views) (l .in-fresh)
       (subst (λ (d : ℕ). Kept fresh (maxKeys * d) n views views′) (sym (l .client-is)) k) s)
+
+  -- what the levels are given, where no code is due
+  pub after-commit : (i : ℕ) {wanted : Wanted} {plain : Bool} {commits : List ℕ} → JudgeGiven g c wanted plain commits → {own m : Set} → IsSet own (λ t. (t ≡ me) × Writes c)
+      → (none ≡ lateRefusal i g c) × IsSet m (D.Holds (history (storeAfter g c)) (held (c .viewAfter)))
+      → AfterCommit (g .store) (viewBefore g c) c wanted (record { before = getD seen client 0; after = m; own = own }) versions keys commits views fresh values ranks plain (maxKeys * client) n me
+  after-commit i j new says = record {
+    made = l .made;
+    view-after = late-view i g c (l .made) (says .0);
+    number-is = l .number-is;
+    arrays = late-masks .arrays;
+    in-commits = j .in-commits;
+    wants = j .wants;
+    holds = late-holds;
+    holds-after = says .1;
+    own = new;
+    operations = l .operations;
+    masks = l .in-fresh;
+    adds-own = j .adds-own;
+  }
+
+-- the failures of a commit, as the run asks for them
+pub noted : (g : Configuration) (c : Commit) (number : ℕ) (fs : Level → Option Failure) {verdicts : List ℕ}
+    → KeepsVerdicts (λ l. orElse (fs l) (failsClauses number (g .store) (viewBefore g c) c (clausesOf l))) verdicts
+    → KeepsVerdicts (λ l. orElse (fs l) (failsEvent l number g (commit c))) verdicts
+unfolding failsEvent
+noted g c number fs k = k
 
 -- the bar as the code reads it
 module _ {s : Store} {u : View} {c : Commit} {sessions versions views values : List ℕ} {client session : ℕ} {ranks : Set} {n : ℕ}

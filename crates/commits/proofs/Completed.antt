@@ -4,12 +4,10 @@ use Prim.Native.Nat.{ℕ, _+_, _*_, _<_}
 use mathlib.Core.Path.{_≡_, sym, ap, _∙_, subst}
 use mathlib.Core.Bool.{Bool}
 use mathlib.Core.Logic.{_↔_}
-use mathlib.Core.Option.{Option}
 use mathlib.Core.List.{List}
 use native.Mathlib.Omega.{arith}
 use lib.Dec.{T}
 use lib.ListN.{getD}
-use Rattle.search.specs.Choose.{orElse}
 use Rattle.search.proofs.Tests.{when-none, firstSome-none}
 use Rattle.sets.specs.Set.{Set}
 use Rattle.dependencies.specs.History as D
@@ -20,17 +18,16 @@ use Rattle.store.specs.Refusal.{refuse, oldNumber}
 use Rattle.store.specs.Sound as Store
 use Rattle.store.proofs.Legal.{newer-is}
 use Rattle.store.specs.History.{history, held}
+use Rattle.store.specs.Sound.{SoundStore}
 use Rattle.growth.specs.Made.{Made}
-use Rattle.growth.proofs.Made.{sound-after}
 use Rattle.trace.proofs.Fits.{commit-fits}
-use Rattle.levels.specs.Level.{Level, Failure, failsEvent, failsClauses, clausesOf}
-use Rattle.state.specs.Keeps.{IsSet, KeepsKeys, KeepsViews, KeepsMasks, KeepsOperations, Keeps}
+use Rattle.state.specs.Keeps.{IsSet, KeepsKeys, KeepsViews, KeepsCommits, KeepsLinks, KeepsMasks, KeepsOperations, Keeps}
 use Rattle.state.specs.Rows.{RowAt}
 use Rattle.views.specs.Own.{AddsOwn}
-use Rattle.verdicts.specs.AtHand.{BeforeCommit}
-use Rattle.verdicts.specs.Verdicts.{KeepsVerdicts}
+use Rattle.verdicts.specs.declared.Wanted.{Wanted}
+use Rattle.verdicts.specs.Wants.{Wants}
 use Rattle.making.specs.Commits.{CommitGiven, MadeIn}
-use Rattle.commits.specs.Codes.{earlyRefusal, LateGiven}
+use Rattle.commits.specs.Codes.{earlyRefusal, LateGiven, JudgeGiven}
 use Rattle.commits.specs.Records.{Recorded, Ready}
 
 module _ {i : ℕ} {g : Configuration} {c : Commit} {clients client session : ℕ} {ranks : Set} {n me : ℕ} {versions keys views seen sessions commits links values fresh : List ℕ}
@@ -64,28 +61,13 @@ module _ {i : ℕ} {g : Configuration} {c : Commit} {clients client session : �
       → T plain → AddsOwn (g .store) (viewBefore g c) c
   plain-is plain says = says (g .store) (viewBefore g c) c values made (let x = r .room-left in omega arith) (r .keys-are) (r .keeps .in-keys) row (ready .masks) (ready .operations) .0
 
-  -- what the levels are given
-  pub before-commit : {plain : Bool} → (T plain → AddsOwn (g .store) (viewBefore g c) c)
-      → BeforeCommit (g .store) (viewBefore g c) c versions keys commits links views fresh values (getD seen client 0) ranks plain (maxKeys * client) n
-  before-commit adds = record {
-    arrays = record {
-      number = r .keys-are;
-      sound = r .sound .store;
-      few = let x = r .room-left in omega arith;
-      in-versions = r .keeps .in-versions;
-      in-keys = r .keeps .in-keys;
-      in-masks = row;
-    };
-    view = r .sound .views (c .client);
-    sound-after = sound-after (g .store) (viewBefore g c) c made;
-    another = let x = r .room-left in omega arith;
-    in-commits = r .keeps .in-commits;
-    in-links = r .keeps .in-links;
-    holds = holds;
-    operations = ready .operations;
-    masks = ready .masks;
-    adds-own = adds;
-  }
+  -- what clauses 3 to 8 want, from the arrays before the commit
+  pub wants-before : (w : Wanted)
+      → ((s : Store) (u : View) (k : Commit) (os : List ℕ) → s .keys ≡ n → SoundStore s → KeepsKeys s keys → KeepsCommits s commits → KeepsLinks s links
+      → KeepsOperations k ranks os → IsSet (getD seen client 0) (D.Holds (history s) (held u)) → Wants s u k w)
+      → Wants (g .store) (viewBefore g c) c w
+  wants-before w says =
+      says (g .store) (viewBefore g c) c values (r .keys-are) (r .sound .store) (r .keeps .in-keys) (r .keeps .in-commits) (r .keeps .in-links) (ready .operations) holds
 
   -- what the making of the commit is given
   pub commit-given : CommitGiven (g .store) (viewBefore g c) c versions keys views sessions values client ranks n
@@ -120,6 +102,10 @@ module _ {i : ℕ} {g : Configuration} {c : Commit} {clients client session : �
       in-views = r .keeps .in-views;
     }
 
+    -- what the levels are given
+    pub judge-given : (plain : Bool) (w : Wanted) → (T plain → AddsOwn (g .store) (viewBefore g c) c) → Wants (g .store) (viewBefore g c) c w → JudgeGiven g c w plain commits′
+    judge-given plain w adds wants = record { wants = wants; adds-own = adds; in-commits = k .in-commits }
+
     -- the arrays after it
     pub kept-after : {views′ seen′ : List ℕ} → KeepsViews (step g (commit c)) views′ seen′ → Keeps (step g (commit c)) versions′ keys′ views′ seen′ sessions′ commits′ links′
     unfolding step
@@ -131,10 +117,3 @@ module _ {i : ℕ} {g : Configuration} {c : Commit} {clients client session : �
       in-commits = k .in-commits;
       in-links = k .in-links;
     }
-
--- the failures of a commit, as the run asks for them
-pub noted : (g : Configuration) (c : Commit) (number : ℕ) (fs : Level → Option Failure) (verdicts : List ℕ)
-    → KeepsVerdicts (λ l. orElse (fs l) (failsClauses number (g .store) (viewBefore g c) c (clausesOf l))) verdicts
-    → KeepsVerdicts (λ l. orElse (fs l) (failsEvent l number g (commit c))) verdicts
-unfolding failsEvent
-noted g c number fs verdicts k = k

@@ -1,27 +1,28 @@
 -- A commit whose view after is the view before and its own versions. Assumes nothing.
-use Prim.Native.Nat.{ℕ, _*_, _≤_, _<_}
+use Prim.Native.Nat.{ℕ, _<_}
 use mathlib.Core.Path.{_≡_, sym, subst}
 use mathlib.Core.Option.{none}
 use mathlib.Core.List.{List}
 use native.Mathlib.Omega.{arith}
 use lib.Dec.{T}
-use lib.ListN.{getD, set}
+use lib.ListN.{getD}
 use Rattle.sets.specs.Set.{Set, single, union}
-use Rattle.store.specs.Limits.{maxKeys, maxClients}
-use Rattle.store.specs.Store.{Configuration, Commit, commit}
-use Rattle.store.specs.Update.{writes, step, viewBefore}
+use Rattle.dependencies.specs.History as D
+use Rattle.store.specs.Limits.{maxClients}
+use Rattle.store.specs.Store.{Configuration, Commit}
+use Rattle.store.specs.Update.{writes, viewBefore, storeAfter}
+use Rattle.store.specs.History.{history, held}
 use Rattle.growth.specs.Made.{Writes}
-use Rattle.state.specs.Keeps.{IsSet, KeepsOperations, KeepsViews}
+use Rattle.state.specs.Keeps.{IsSet, KeepsOperations}
 use Rattle.state.specs.Accesses.{Left}
 use Rattle.state.proofs.Accesses.{left-none, left-some}
 use Rattle.state.proofs.Sets.{isSet-as, isSet-none, isSet-single}
-use Rattle.views.specs.Rows.{Kept}
 use Rattle.views.specs.Own.{AddsOwn}
 use Rattle.state.proofs.Ranks.{writes-rank}
 use Rattle.views.proofs.OwnView.{own-good, own-not-stray, own-holds}
 use Rattle.shifts.proofs.Refused.{masks-good}
 use Rattle.commits.specs.Codes.{lateRefusal, LateGiven}
-use Rattle.commits.proofs.Cases.{late-none, late-holds, late-kept}
+use Rattle.commits.proofs.Cases.{late-none, late-holds}
 
 -- ---- the commit's own number
 
@@ -45,9 +46,8 @@ module _ {g : Configuration} {c : Commit} {values versions keys fresh views seen
       let good = own-good (g .store) (viewBefore g c) c (l .made) adds in
       late-none i g c (masks-good i _ _ (good .0) (good .1)) (own-not-stray (g .store) (viewBefore g c) c (l .made) adds)
 
-  -- and the views after it are kept
-  pub own-kept : client < maxClients → n ≤ maxKeys → (mine : ℕ) → IsSet mine (λ t. (t ≡ me) × Writes c)
-      → {views′ : List ℕ} {m : ℕ} → Kept fresh (maxKeys * client) n views views′ → m ≡ union (getD seen client 0) mine → KeepsViews (step g (commit c)) views′ (set seen client m)
-  own-kept b few mine new {views′} {m} k q =
-      late-kept l b few m k
-      (rw q (own-holds (g .store) (viewBefore g c) c (l .made) adds (getD seen client 0) mine (late-holds l b) (subst (λ (x : ℕ). IsSet mine (λ t. (t ≡ x) × Writes c)) (sym (l .number-is)) new)))
+  -- and it holds the commits that the view before holds, and the commit where it writes something
+  pub own-seen : client < maxClients → (own : ℕ) → IsSet own (λ t. (t ≡ me) × Writes c) → {m : ℕ} → m ≡ union (getD seen client 0) own
+      → IsSet m (D.Holds (history (storeAfter g c)) (held (c .viewAfter)))
+  own-seen b own new q =
+      rw q (own-holds (g .store) (viewBefore g c) c (l .made) adds (getD seen client 0) own (late-holds l b) (subst (λ (x : ℕ). IsSet own (λ t. (t ≡ x) × Writes c)) (sym (l .number-is)) new))

@@ -1,19 +1,31 @@
 -- The codes of a commit in two parts, before it is made and after, and what is given where each is asked. Assumes nothing.
 use Prim.Native.Nat.{ℕ, _*_, _≤_}
 use mathlib.Core.Path.{_≡_}
-use mathlib.Core.Option.{Option}
+use mathlib.Core.Bool.{Bool}
+use mathlib.Core.Option.{Option, some, none}
 use mathlib.Core.List.{List, [], _∷_}
+use lib.Dec.{T}
 use Rattle.search.specs.Choose.{mapSome, when, orElse, firstSome}
 use Rattle.sets.specs.Set.{Set}
 use Rattle.store.specs.Limits.{maxKeys, maxCommits}
+use Rattle.dependencies.specs.History as D
 use Rattle.store.specs.Store.{View, Store, Configuration, nextNumber, Commit, commit}
 use Rattle.store.specs.Update.{step, viewBefore, storeAfter}
+use Rattle.store.specs.History.{history, held}
 use Rattle.store.specs.Refusal.{Refusal, refuse, refuseKey, refusePlace, oldNumber, wrongRead, stray}
 use Rattle.store.specs.Sound.{Sound}
 use Rattle.growth.specs.Made.{Made}
 use Rattle.growth.specs.Ordered.{Ordered}
-use Rattle.state.specs.Keeps.{KeepsSessions, KeepsVersions, KeepsKeys, KeepsViews, KeepsMasks, KeepsOperations}
+use Rattle.state.specs.Keeps.{IsSet, KeepsSessions, KeepsVersions, KeepsKeys, KeepsViews, KeepsCommits, KeepsMasks, KeepsOperations}
 use Rattle.operations.specs.Given.{Given}
+use Rattle.state.specs.Answers.{refusalOf}
+use Rattle.shifts.specs.declared.Sight.{Sight}
+use Rattle.shifts.specs.declared.Sight.the-variants.{Holds, Bad}
+use Rattle.levels.specs.Level.{Level, Failure, failsEvent}
+use Rattle.views.specs.Own.{AddsOwn}
+use Rattle.verdicts.specs.declared.Wanted.{Wanted}
+use Rattle.verdicts.specs.Wants.{Wants}
+use Rattle.verdicts.specs.Verdicts.{KeepsVerdicts}
 use Rattle.shifts.specs.declared.Outcome.{Outcome}
 use Rattle.shifts.specs.declared.Outcome.the-variants.{Taken}
 use Rattle.shifts.specs.Outcomes.{outcomeOf, maskRefusal}
@@ -48,6 +60,19 @@ pub record LateGiven (g : Configuration) (c : Commit) (values versions keys fres
   pub in-fresh : KeepsMasks n (c .viewAfter) fresh
   pub in-views : KeepsViews g views seen
 
--- and what is answered then: the refusal that is due, and where none is, the views after the commit are kept
-abbrev pub LateSays : ℕ → Configuration → Commit → List ℕ → List ℕ → Outcome → Type 0
-LateSays i g c views seen r = (outcomeOf r ≡ lateRefusal i g c) × (r ≡ Taken → KeepsViews (step g (commit c)) views seen)
+-- what is said of the view after: the refusal that is due, or none, and the commits of which it holds a version
+abbrev pub AfterSays : ℕ → Configuration → Commit → Sight → Type 0
+AfterSays i g c (Bad r) = some (refusalOf r) ≡ lateRefusal i g c
+AfterSays i g c (Holds m) = (none ≡ lateRefusal i g c) × IsSet m (D.Holds (history (storeAfter g c)) (held (c .viewAfter)))
+
+-- what the levels are given besides
+pub record JudgeGiven (g : Configuration) (c : Commit) (wanted : Wanted) (plain : Bool) (commits : List ℕ) : Type 0 where
+  pub wants : Wants (g .store) (viewBefore g c) c wanted
+  pub adds-own : T plain → AddsOwn (g .store) (viewBefore g c) c
+  pub in-commits : KeepsCommits (storeAfter g c) commits
+
+-- and what is answered: the refusal that is due, and where none is, the views after the commit and the verdicts on it are kept
+abbrev pub LateSays : ℕ → Configuration → Commit → (Level → Option Failure) → List ℕ → List ℕ → List ℕ → Outcome → Type 0
+LateSays i g c fs views seen verdicts r =
+    (outcomeOf r ≡ lateRefusal i g c)
+    × (r ≡ Taken → KeepsViews (step g (commit c)) views seen × KeepsVerdicts (λ l. orElse (fs l) (failsEvent l i g (commit c))) verdicts)

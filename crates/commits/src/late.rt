@@ -5,19 +5,23 @@ use shifts::masks::sight;
 use state::CommitNumber;
 use state::FoundKey;
 use state::Refusal;
+use verdicts::Held;
+use verdicts::Wanted;
 ghost use Prim.Native.Nat.{ℕ, _≤_, _<_};
 ghost use mathlib.Core.Path.{_≡_};
 ghost use mathlib.Core.List.{List};
+ghost use mathlib.Core.Option.{Option};
 ghost use lib.Dec.{T};
 ghost use Rattle.store.specs.Limits.{maxKeys, maxClients, numbers};
-ghost use Rattle.store.specs.Store.{Configuration, Commit, commit};
+ghost use Rattle.store.specs.Store.{Configuration, Commit};
 ghost use Rattle.store.specs.Update.{writes, viewBefore};
 ghost use Rattle.growth.specs.Made.{Writes};
-ghost use Rattle.state.specs.Room.{VersionsRoom, KeysRoom, ViewsRoom, SeenRoom, FreshRoom};
+ghost use Rattle.levels.specs.Level.{Level, Failure};
+ghost use Rattle.state.specs.Room.{VersionsRoom, KeysRoom, CommitsRoom, ViewsRoom, SeenRoom, FreshRoom};
 ghost use Rattle.state.specs.Keeps.{IsSet, KeepsOperations};
 ghost use Rattle.views.specs.Own.{AddsOwn};
-ghost use Rattle.shifts.specs.declared.Outcome.the-variants.{Taken};
-ghost use Rattle.commits.specs.Codes.{LateGiven, LateSays};
+ghost use Rattle.verdicts.specs.Verdicts.{VerdictsRoom, KeepsVerdicts};
+ghost use Rattle.commits.specs.Codes.{LateGiven, AfterSays, JudgeGiven, LateSays};
 
 // The commit's own number, as a set; none where it writes nothing.
 fn own_number(ranks: u64, n: usize, me: CommitNumber) -> u64
@@ -30,65 +34,111 @@ fn own_number(ranks: u64, n: usize, me: CommitNumber) -> u64
     sets::single(me.0)
 }
 
-// The view after is the view before and the commit's own versions: no code is due, and it becomes the client's view. It holds the commits that the
-// view before holds and, if it writes something, this one.
-fn own_only(
-    fresh: &[u64],
-    views: &mut [u64],
-    seen: &mut [u64],
-    client: usize,
-    ranks: u64,
-    n: usize,
-    me: CommitNumber,
-) -> Outcome
-    requires { ⌜ (n ≤ maxKeys) × (client < maxClients) × (me .0 < numbers) × FreshRoom (now fresh) × ViewsRoom (now views) × SeenRoom (now seen) ⌝ }
-    ensures { λ r. ⌜
-        ((g : Configuration) (c : Commit) (values versions keys : List ℕ) (i : ℕ)
-        → LateGiven g c values versions keys (now (fresh .entry)) (now (views .entry)) (now (seen .entry)) client ranks n (me .0)
-        → AddsOwn (g .store) (viewBefore g c) c
-        → LateSays i g c (now (views .exit)) (now (seen .exit)) r)
-        ⌝ }
-{
-    views::masks::keep(views, state::PER_CLIENT * client, fresh, n);
-    seen[client] = sets::union(seen[client], own_number(ranks, n, me));
-    Outcome::Taken
-}
-
-// Codes 10, 11 and 14, for the record of this number; where none is due, the masks become the client's view. The other arrays keep the store after the commit. Where `plain` says
-// that the view after is the view before and the commit's own versions, no search is made.
-pub fn late(
+// Codes 10, 11 and 14, for the record of this number; or the commits of which the view after holds a version. The versions and keys are those of the store
+// after the commit, the views those before it; `own` is the commit's own number, where it writes something. Where `plain` says that the view after is the view
+// before and the commit's own versions, no code is due, and no search is made.
+fn sight_after(
     number: usize,
     versions: &[u64],
     keys: &[u64],
     fresh: &[u64],
+    views: &[u64],
+    seen: &[u64],
+    client: usize,
+    ranks: u64,
+    own: u64,
+    plain: bool,
+    n: usize,
+) -> Sight
+    requires { ⌜ (1 ≤ n) × (n ≤ maxKeys) × (client < maxClients) × VersionsRoom (now versions) × KeysRoom (now keys) × FreshRoom (now fresh) × ViewsRoom (now views) × SeenRoom (now seen) ⌝ }
+    ensures { λ r. ⌜
+        ((g : Configuration) (c : Commit) (values : List ℕ) (me : ℕ)
+        → LateGiven g c values (now (versions .entry)) (now (keys .entry)) (now (fresh .entry)) (now (views .entry)) (now (seen .entry)) client ranks n me
+        → (T plain → AddsOwn (g .store) (viewBefore g c) c) → IsSet own (λ t. (t ≡ me) × Writes c)
+        → AfterSays number g c r)
+        ⌝ }
+{
+    if plain {
+        return Sight::Holds(sets::union(seen[client], own));
+    }
+    let base = state::PER_CLIENT * client;
+    match sight(number, versions, keys, fresh, views, base, seen[client], n) {
+        Sight::Bad(r) => Sight::Bad(r),
+        Sight::Holds(m) => {
+            if let FoundKey::AtKey(k) = views::masks::stray(fresh, views, base, ranks, n) {
+                return Sight::Bad(Refusal::of_key(14, number, k));
+            }
+            Sight::Holds(m)
+        }
+    }
+}
+
+// A commit that is made, of the record of this number: codes 10, 11 and 14; where none is due, the levels judge it, and the masks become the client's view.
+// The other arrays keep the store after the commit, and `wanted` is what clauses 3 to 8 want of the view before.
+pub fn late(
+    number: usize,
+    wanted: Wanted,
+    versions: &[u64],
+    keys: &[u64],
+    commits: &[u64],
+    fresh: &[u64],
     views: &mut [u64],
     seen: &mut [u64],
+    verdicts: &mut [u64],
     client: usize,
     ranks: u64,
     plain: bool,
     n: usize,
     me: CommitNumber,
 ) -> Outcome
-    requires { ⌜ (1 ≤ n) × (n ≤ maxKeys) × (client < maxClients) × (me .0 < numbers) × VersionsRoom (now versions) × KeysRoom (now keys) × FreshRoom (now fresh) × ViewsRoom (now views) × SeenRoom (now seen) ⌝ }
+    requires { ⌜ (1 ≤ n) × (n ≤ maxKeys) × (client < maxClients) × (me .0 < numbers) × VersionsRoom (now versions) × KeysRoom (now keys) × CommitsRoom (now commits) × FreshRoom (now fresh) × ViewsRoom (now views) × SeenRoom (now seen) × VerdictsRoom (now verdicts) ⌝ }
     ensures { λ r. ⌜
-        ((g : Configuration) (c : Commit) (values : List ℕ)
+        ((g : Configuration) (c : Commit) (values : List ℕ) (fs : Level → Option Failure)
         → LateGiven g c values (now (versions .entry)) (now (keys .entry)) (now (fresh .entry)) (now (views .entry)) (now (seen .entry)) client ranks n (me .0)
-        → (T plain → AddsOwn (g .store) (viewBefore g c) c)
-        → LateSays number g c (now (views .exit)) (now (seen .exit)) r)
+        → JudgeGiven g c wanted plain (now (commits .entry)) → KeepsVerdicts fs (now (verdicts .entry))
+        → LateSays number g c fs (now (views .exit)) (now (seen .exit)) (now (verdicts .exit)) r)
         ⌝ }
 {
-    if plain {
-        return own_only(fresh, views, seen, client, ranks, n, me);
-    }
-    let base = state::PER_CLIENT * client;
-    match sight(number, versions, keys, fresh, views, base, seen[client], n) {
+    let own = own_number(ranks, n, me);
+    match sight_after(
+        number,
+        versions,
+        keys,
+        fresh,
+        views,
+        seen,
+        client,
+        ranks,
+        own,
+        plain,
+        n,
+    ) {
         Sight::Bad(r) => Outcome::Refused(r),
-        Sight::Holds(m) => {
-            if let FoundKey::AtKey(k) = views::masks::stray(fresh, views, base, ranks, n) {
-                return Outcome::Refused(Refusal::of_key(14, number, k));
-            }
+        Sight::Holds(after) => {
+            let held = Held {
+                before: seen[client],
+                after,
+                own,
+            };
+            let base = state::PER_CLIENT * client;
+            verdicts::report::judge(
+                verdicts,
+                number,
+                wanted,
+                versions,
+                keys,
+                commits,
+                views,
+                base,
+                fresh,
+                held,
+                ranks,
+                plain,
+                n,
+                me,
+            );
             views::masks::keep(views, base, fresh, n);
-            seen[client] = m;
+            seen[client] = after;
             Outcome::Taken
         }
     }

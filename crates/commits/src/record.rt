@@ -74,8 +74,8 @@ fn begin(
     Begun { outcome, ranks }
 }
 
-// A commit that is not refused before it is made: the levels judge it, it is made, and its view after is tested (codes 10, 11 and 14). In the common
-// case that the view after is the view before and the commit's own versions, no search is made in it.
+// A commit that is not refused before it is made: what clauses 3 to 8 want of the view before is gathered, it is made, its view after is tested (codes 10, 11
+// and 14), and the levels judge it. In the common case that the view after is the view before and the commit's own versions, no search is made in it.
 fn complete(
     number: usize,
     client: usize,
@@ -104,21 +104,7 @@ fn complete(
         ⌝ }
 {
     let plain = views::masks::adds_own(fresh, views, state::PER_CLIENT * client, keys, ranks, n);
-    verdicts::report::judge(
-        verdicts,
-        number,
-        versions,
-        keys,
-        commits,
-        links,
-        views,
-        state::PER_CLIENT * client,
-        fresh,
-        seen[client],
-        ranks,
-        plain,
-        n,
-    );
+    let wanted = verdicts::clauses::wanted(keys, commits, links, seen[client], ranks, n);
     making::make(
         versions,
         keys,
@@ -135,11 +121,14 @@ fn complete(
     );
     late(
         number,
+        wanted,
         versions,
         keys,
+        commits,
         fresh,
         views,
         seen,
+        verdicts,
         client,
         ranks,
         plain,

@@ -8,7 +8,7 @@ use lib.Dec.{ltb, lt→ltb}
 use lib.ListN.{length, getD}
 use Rattle.search.specs.Choose.{mapSome, orElse, firstSome}
 use Rattle.search.proofs.Choose.{choose-yes}
-use Rattle.search.proofs.Tests.{some-none}
+use Rattle.search.proofs.Tests.{some-none, map-none, firstSome-none}
 use Rattle.endian.specs.Endian.{leAt}
 use Rattle.store.specs.Limits.{maxKeys, maxClients}
 use Rattle.store.specs.Store.{Client, View, Store, Configuration, shift}
@@ -35,6 +35,12 @@ module _ (i : ℕ) (s : Store) (u : View) {a : Refusal} where
 pub masks-good : (i : ℕ) (s : Store) (u : View) → badMask s u ≡ none → halfHeld s u ≡ none → maskRefusal i s u ≡ none
 unfolding maskRefusal firstSome mapSome orElse
 masks-good i s u e h = rw (e, h)
+
+pub good-masks : (i : ℕ) (s : Store) (u : View) → maskRefusal i s u ≡ none → (badMask s u ≡ none) × (halfHeld s u ≡ none)
+unfolding maskRefusal
+good-masks i s u e =
+    let n = firstSome-none (mapSome (refuseKey 10 i) (badMask s u) ∷ mapSome (refusePlace 11 i) (halfHeld s u) ∷ []) .0 e in
+    (map-none (refuseKey 10 i) (badMask s u) .0 (n .0), map-none (refusePlace 11 i) (halfHeld s u) .0 (n .1 .0))
 
 -- the first of two answers, or a third
 pub third-or : {A : Type 0} (a b c : Option A) → firstSome (a ∷ b ∷ c ∷ []) ≡ orElse (firstSome (a ∷ b ∷ [])) c

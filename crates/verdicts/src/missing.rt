@@ -30,14 +30,7 @@ pub fn missing_by(
     match clause {
         1 => h.lost,
         2 => views::missing::least_by_writer(versions, keys, fresh, 0, h.session, n),
-        3 => views::missing::least_by_writer(
-            versions,
-            keys,
-            views,
-            base,
-            w.before & w.lacking,
-            n,
-        ),
+        3 => views::missing::least_by_writer(versions, keys, views, base, w.before & w.lacking, n),
         4 => views::missing::least_by_reader(
             versions,
             keys,
@@ -47,14 +40,7 @@ pub fn missing_by(
             n,
         ),
         5 => views::missing::least_absent(keys, views, base, h.ranks, n),
-        6 => views::missing::least_by_writer(
-            versions,
-            keys,
-            views,
-            base,
-            w.prefix & w.lacking,
-            n,
-        ),
+        6 => views::missing::least_by_writer(versions, keys, views, base, w.prefix & w.lacking, n),
         7 => views::missing::least_by_writer(
             versions,
             keys,

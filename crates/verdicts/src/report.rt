@@ -140,6 +140,15 @@ pub fn judge(
         return;
     }
     note(
-        verdicts, failing, number, h, versions, keys, views, base, fresh, n,
+        verdicts,
+        failing,
+        number,
+        h,
+        versions,
+        keys,
+        views,
+        base,
+        fresh,
+        n,
     );
 }
