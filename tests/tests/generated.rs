@@ -56,8 +56,9 @@ fn runs() -> impl Iterator<Item = (u64, Run)> {
 /// it fails now where it did not before, or earlier, or by a lesser version.
 #[test]
 fn the_wider_clause_2_changes_ryw_alone() {
-    let (mut accepted, mut earlier, mut lesser) = (0, 0, 0);
+    let (mut traces, mut accepted, mut earlier, mut lesser) = (0, 0, 0, 0);
     for (seed, run) in runs() {
+        traces += 1;
         for (level, before, now) in changed_verdicts(&run) {
             assert_eq!(level, "RYW", "seed {seed}");
             match (place(&before), place(&now)) {
@@ -68,6 +69,7 @@ fn the_wider_clause_2_changes_ryw_alone() {
             }
         }
     }
+    println!("{traces} traces");
     println!("RYW accepted before: {accepted}, failed later: {earlier}, named another: {lesser}");
     assert!(accepted > 0 && earlier > 0 && lesser > 0);
 }
