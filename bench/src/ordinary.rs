@@ -265,8 +265,12 @@ impl<const WIDTH: usize> Workspace<WIDTH> {
                 }
             }
             failing |= u16::from(any_beyond(&client.view, fresh)) << 1;
-            failing |= u16::from(any_beyond(own, fresh)) << 2;
         }
+        // Clause 2, of a commit with operations: the writers of its session.
+        let operates = wrote || commit.reads.keys != 0;
+        let writing = store.writing | u64::from(wrote) << me;
+        let unseen = commit.session_with(me) & writing & !client.held;
+        failing |= u16::from(operates && unseen != 0) << 2;
 
         // Verdicts. Where the view lacks nothing, clauses 3 to 8 hold.
         if lacking != 0 {
@@ -284,13 +288,13 @@ impl<const WIDTH: usize> Workspace<WIDTH> {
 
         // The commit takes its place in its session and in the links.
         client.view = *fresh;
-        if wrote || commit.reads.keys != 0 {
+        if operates {
             client.add(me, &commit);
         }
         if commit.reads.over != 0 {
             links.note_backward(&commit);
         }
-        store.writing |= u64::from(wrote) << me;
+        store.writing = writing;
         Ok(())
     }
 }
@@ -362,6 +366,11 @@ struct Writes {
 }
 
 impl Commit {
+    /// The commit, which has this number, and those before it in SO.
+    fn session_with(&self, me: usize) -> u64 {
+        self.before | 1 << me
+    }
+
     /// The links to it that RW may follow in clause 6.
     fn prefix_links(&self) -> u64 {
         self.before | self.reads.sources
@@ -850,7 +859,12 @@ fn missing<const WIDTH: usize>(
     let by = |writers: u64| store.least(&lacked, |version| writers >> version.writer & 1 != 0);
     match clause {
         1 => store.least(&beyond(step.view, step.fresh), |_| true),
-        2 => store.least(&beyond(own, step.fresh), |_| true),
+        2 => {
+            let session = store.log[store.commits].session_with(store.commits);
+            store.least(&beyond(&store.full, step.fresh), |version| {
+                session >> version.writer & 1 != 0
+            })
+        }
         3 => by(store.sessions(step.had).0),
         4 => {
             let readers = step.had | store.sessions(step.had).0;

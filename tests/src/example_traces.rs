@@ -1,5 +1,6 @@
-//! Section "Traces from the bench": the example traces A to K with the
-//! answers that the paper gives, or that follow from it where it says "the rest".
+//! Section "Traces from the bench", the example traces A to K, and trace L of
+//! request E4, with the answers that the papers give, or that follow from them
+//! where they say "the rest".
 
 use crate::by_hand::{self, commit, read, shift};
 use crate::levels::place_of;
@@ -23,9 +24,9 @@ pub enum Expected {
     Judged([Verdict; 10]),
 }
 
-/// All of them in the paper's order.
+/// All of them in the papers' order.
 pub fn all() -> Vec<ExampleTrace> {
-    a_to_g().into_iter().chain(h_to_k()).collect()
+    a_to_g().into_iter().chain(h_to_k()).chain([l()]).collect()
 }
 
 /// A file that is the encoding of its trace.
@@ -136,6 +137,22 @@ fn h_to_k() -> Vec<ExampleTrace> {
             expected: code(4, 2, 0, 0),
         },
     ]
+}
+
+/// Read your writes, of the whole session.
+fn l() -> ExampleTrace {
+    whole(
+        "L",
+        trace_l(),
+        judged(&[
+            ("MR", refused(2, 2, 1, 0, 1)),
+            ("RYW", refused(2, 2, 2, 0, 1)),
+            ("CC", refused(2, 2, 1, 0, 1)),
+            ("PSI", refused(2, 2, 1, 0, 1)),
+            ("CP", refused(2, 2, 1, 0, 1)),
+            ("SI", refused(2, 2, 1, 0, 1)),
+        ]),
+    )
 }
 
 /// Header only, one key.
@@ -282,6 +299,18 @@ pub fn trace_k_wrong_read() -> Trace {
         vec![
             commit(0, 0, &[read(0, 1)], &[&[0]]),
             commit(0, 1, &[write(0)], &[&[0, 1]]),
+        ],
+    )
+}
+
+/// A client loses what an earlier commit of its session wrote.
+pub fn trace_l() -> Trace {
+    trace(
+        1,
+        1,
+        vec![
+            commit(0, 0, &[write(0)], &[&[0, 1]]),
+            commit(0, 1, &[read(0, 1)], &[&[0]]),
         ],
     )
 }

@@ -7,7 +7,7 @@ use crate::{judge_with_room, outcome, report, Call};
 use std::path::{Path, PathBuf};
 
 /// In the order of `example_traces::all`.
-pub const NAMES: [&str; 16] = [
+pub const NAMES: [&str; 17] = [
     "A-header-only",
     "B-lost-update",
     "C-long-fork",
@@ -24,6 +24,7 @@ pub const NAMES: [&str; 16] = [
     "K-63-commits",
     "K-64-commits",
     "K-wrong-read-then-kind-9",
+    "L-lost-own-write",
 ];
 
 /// Each trace with the name of its file.

@@ -5,10 +5,12 @@
 
 pub mod mangled;
 pub mod planted;
+pub mod session;
 pub mod taken;
 
 pub use mangled::{mangled, record_places};
 pub use planted::{competing, planted};
+pub use session::build_session;
 pub use taken::{
     build, build_path, exactly_full, largest, largest_serial, Built, Numbering, Rule, Seeing,
     Style, FORMER_KEYS,
@@ -28,9 +30,10 @@ pub struct Case {
 }
 
 /// Every kind of a case.
-pub const KINDS: [&str; 14] = [
+pub const KINDS: [&str; 15] = [
     "taken",
     "path",
+    "session",
     "largest",
     "full",
     "overfull",
@@ -103,13 +106,16 @@ pub fn file(seed: u64) -> Vec<u8> {
     case(seed).bytes
 }
 
-/// A taken trace of a random style, or around one path of links.
+/// A taken trace of a random style, or around one path of links or one session.
 pub fn taken_case(random: &mut Random) -> Case {
-    if random.percent(25) {
-        return known_taken("path", &build_path(random).trace);
+    match random.below(100) {
+        0..=24 => known_taken("path", &build_path(random).trace),
+        25..=34 => known_taken("session", &build_session(random).trace),
+        _ => {
+            let style = Style::random(random);
+            known_taken("taken", &build(random, &style).trace)
+        }
     }
-    let style = Style::random(random);
-    known_taken("taken", &build(random, &style).trace)
 }
 
 fn known_taken(kind: &'static str, trace: &Trace) -> Case {

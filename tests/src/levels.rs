@@ -1,5 +1,6 @@
-//! Section "Clauses and levels": the table of clauses, the ten levels, and the
-//! first failure of each level over a taken trace.
+//! Section "Clauses and levels": the table of clauses, the second one as request
+//! E4 amends it, the ten levels, and the first failure of each level over a taken
+//! trace.
 
 use crate::relations::{prefix_paths, snapshot_paths, so, Relation};
 use crate::run::{Run, Step};
@@ -108,10 +109,16 @@ pub fn missing(clause: u8, step: &Step) -> Option<(Key, Version)> {
         1 => least_missing(&step.store_after, &step.u_after, |key, version| {
             u.contains(&(key, version))
         }),
-        // RYW: versions written by this commit in u'.
-        2 => least_missing(&step.store_after, &step.u_after, |key, version| {
-            step.store_after.get(key, version).writer == step.commit
-        }),
+        // RYW: "A commit without operations asks nothing".
+        2 if step.operations.is_empty() => None,
+        // RYW: "u' holds every version written by this commit or by any commit
+        // before it in SO".
+        2 => {
+            let session = session_of(step);
+            least_missing(&step.store_after, &step.u_after, |key, version| {
+                session.contains(&step.store_after.get(key, version).writer)
+            })
+        }
         // MW: if u holds a version by t, versions by any t' with t' SO t.
         3 => missing_before(step, &so(store)),
         // WFR: if u holds a version by t, each version read by t or by a t'
@@ -138,6 +145,14 @@ pub fn missing(clause: u8, step: &Step) -> Option<(Key, Version)> {
         8 => least_missing(store, u, |_, _| true),
         _ => unreachable!("there are eight clauses"),
     }
+}
+
+/// A commit with operations and those before it in SO.
+pub fn session_of(step: &Step) -> BTreeSet<CommitNumber> {
+    let commit = BTreeSet::from([step.commit]);
+    let mut session = led_to(&so(&step.store_after), &commit);
+    session.extend(commit);
+    session
 }
 
 /// If u holds a version by t, versions by any t' with a link from t' to t.

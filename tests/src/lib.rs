@@ -20,6 +20,7 @@ pub mod generate;
 pub mod image;
 pub mod levels;
 pub mod met;
+pub mod own_writes;
 #[cfg(feature = "proved")]
 pub mod programs;
 pub mod random;

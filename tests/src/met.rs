@@ -1,8 +1,10 @@
 //! What a run over many files met, counted: to be printed, and to fail where
 //! something was never met.
 
+use crate::facts;
 use crate::generate::{case, record_places, Case, FORMER_KEYS, KINDS};
-use crate::levels::LEVELS;
+use crate::levels::{place_of, LEVELS};
+use crate::own_writes::{ways, WAYS};
 use crate::store::Store;
 use crate::{outcome, Call, Outcome, Refusal, Taken, Verdict};
 use std::collections::{BTreeMap, BTreeSet};
@@ -23,6 +25,8 @@ pub struct Met {
     combinations: BTreeMap<String, usize>,
     /// Refusals of each level by each of its clauses.
     clauses: BTreeMap<(&'static str, u8), usize>,
+    /// Files that RYW refuses by the ways in which commits stand to clause 2.
+    own_writes: BTreeMap<&'static str, usize>,
     /// The failures of SER, as code 16 names them.
     ser_failures: BTreeSet<Refusal>,
     /// The most operations of a commit in the files that are taken.
@@ -95,6 +99,12 @@ impl Met {
             }
         }
         *self.combinations.entry(refusing(verdicts)).or_default() += 1;
+        if verdicts[place_of("RYW")] != Verdict::Accepted {
+            let (_, run) = facts::taken(file).expect("it is taken");
+            for way in ways(&run) {
+                *self.own_writes.entry(way).or_default() += 1;
+            }
+        }
         if let Err(refusal) = taken.replay {
             self.ser_failures.insert(refusal);
         }
@@ -126,6 +136,9 @@ impl Met {
         }
         for (clause, count) in other.clauses {
             *self.clauses.entry(clause).or_default() += count;
+        }
+        for (way, count) in other.own_writes {
+            *self.own_writes.entry(way).or_default() += count;
         }
         self.ser_failures.extend(other.ser_failures);
         self.most_operations = self.most_operations.max(other.most_operations);
@@ -160,6 +173,10 @@ impl Met {
         println!("files that each level refuses, by clause");
         for ((level, clause), count) in &self.clauses {
             println!("  {level} by {clause}: {count}");
+        }
+        println!("files that RYW refuses, by a commit that");
+        for (way, count) in &self.own_writes {
+            println!("  {way}: {count}");
         }
         println!("files by the levels that refuse them together");
         for (combination, count) in &self.combinations {
@@ -212,6 +229,10 @@ impl Met {
                 let pair = (level.name, clause);
                 assert!(self.clauses.contains_key(&pair), "{pair:?} was never met");
             }
+        }
+        for way in WAYS {
+            let files = self.own_writes.get(way).copied().unwrap_or_default();
+            assert!(files >= 10, "{files} files with a commit that {way}");
         }
         let met: BTreeSet<String> = self.combinations.keys().cloned().collect();
         assert_eq!(met, possible_combinations());

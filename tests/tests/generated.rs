@@ -4,11 +4,15 @@
 use model::buffer::{pattern, untouched};
 use model::facts::{
     accepts, demand_3_holds, has_ring_without_adjacent_rw, has_ring_without_adjacent_rw_by_closure,
+    taken,
 };
-use model::generate::{file, Case, Expected};
+use model::generate::{file, taken_case, Case, Expected};
+use model::levels::missing;
 use model::met::{possible_combinations, Met};
+use model::own_writes::{changed_verdicts, lacked};
 use model::random::Random;
-use model::{answer, report, Answer, Call, Outcome};
+use model::run::Run;
+use model::{answer, report, Answer, Call, Outcome, Verdict};
 use std::collections::BTreeSet;
 
 const FILES: u64 = 20_000;
@@ -39,12 +43,76 @@ fn thirty_nine_combinations_are_possible() {
     assert_eq!(possible_combinations().len(), 39);
 }
 
+/// The first taken traces that are not long.
+fn runs() -> impl Iterator<Item = (u64, Run)> {
+    let run = |seed| {
+        let (_, run) = taken(&taken_case(&mut Random::seeded(seed)).bytes).expect("taken");
+        (seed, run)
+    };
+    (0..6_000).map(run).filter(|(_, run)| run.steps.len() <= 16)
+}
+
+/// Request E4 amends a clause of five levels, and changes what RYW says alone:
+/// it fails now where it did not before, or earlier, or by a lesser version.
+#[test]
+fn the_wider_clause_2_changes_ryw_alone() {
+    let (mut traces, mut accepted, mut earlier, mut lesser) = (0, 0, 0, 0);
+    for (seed, run) in runs() {
+        traces += 1;
+        for (level, before, now) in changed_verdicts(&run) {
+            assert_eq!(level, "RYW", "seed {seed}");
+            match (place(&before), place(&now)) {
+                (None, Some(_)) => accepted += 1,
+                (Some(before), Some(now)) if now.0 < before.0 => earlier += 1,
+                (Some(before), Some(now)) if now < before => lesser += 1,
+                _ => panic!("seed {seed}: {before:?} before, {now:?} now"),
+            }
+        }
+    }
+    println!("{traces} traces");
+    println!("RYW accepted before: {accepted}, failed later: {earlier}, named another: {lesser}");
+    assert!(accepted > 0 && earlier > 0 && lesser > 0);
+}
+
+/// Commit, key and version of a failure.
+fn place(verdict: &Verdict) -> Option<(usize, usize, usize)> {
+    match *verdict {
+        Verdict::Accepted => None,
+        Verdict::Refused {
+            commit,
+            key,
+            version,
+            ..
+        } => Some((commit, key, version)),
+    }
+}
+
+/// Of a commit with operations clause 2 wants all versions of its client, and
+/// of another none.
+#[test]
+fn clause_2_wants_the_versions_of_the_client() {
+    let (mut missed, mut unasked) = (0, 0);
+    for (seed, run) in runs() {
+        for step in &run.steps {
+            let lacked = lacked(step).first().copied();
+            let (due, count) = match step.operations[..] {
+                [] => (None, &mut unasked),
+                _ => (lacked, &mut missed),
+            };
+            assert_eq!(missing(2, step), due, "seed {seed}, {:?}", step.commit);
+            *count += usize::from(lacked.is_some());
+        }
+    }
+    println!("commits that miss something {missed}, that are not asked {unasked}");
+    assert!(missed > 0 && unasked > 0);
+}
+
 /// The files of the first seeds are the ones that were counted when the figures
 /// in the README were taken, and hardly two of them are the same.
 #[test]
 fn a_seed_gives_one_file() {
     let files: Vec<Vec<u8>> = (0..2_000).map(file).collect();
-    assert_eq!(fingerprint(&files.concat()), 0x12A7_B8EF_AD55_8F75);
+    assert_eq!(fingerprint(&files.concat()), 0x143B_633E_3A61_C0F2);
     let different: BTreeSet<&Vec<u8>> = files.iter().collect();
     assert_eq!(different.len(), 1_995);
 }

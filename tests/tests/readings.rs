@@ -3,6 +3,7 @@
 
 use model::buffer::LONG;
 use model::by_hand::{commit, read, shift, write};
+use model::levels::missing;
 use model::store::Store;
 use model::trace::{encode, with_true_length, Operation, Record, Trace};
 use model::{judge, judge_with_room, replay, Answer, Refusal, Replay, Report};
@@ -262,6 +263,68 @@ fn a_commit_without_operations_is_judged_from_its_view() {
     let text = model::report(&Answer::Judged(report));
     assert!(text.ends_with("SER refused record 2 clause 8 key 0 version 1\n"));
     assert_eq!(text.matches(" accepted").count(), 9);
+}
+
+/// What RYW says of a trace.
+fn ryw(keys: usize, clients: usize, records: &[Record]) -> String {
+    let (report, _) = taken(&file(keys, clients, records));
+    let text = model::report(&Answer::Judged(report));
+    let line = text.lines().find_map(|line| line.strip_prefix("RYW "));
+    line.expect("a verdict").to_string()
+}
+
+/// Request E4: "u' holds every version written by this commit or by any commit
+/// before it in SO", also where the commit writes nothing itself, and after
+/// commits that wrote nothing. A version that another client wrote is not asked.
+#[test]
+fn read_your_writes_covers_the_whole_session() {
+    let wrote = commit(0, 0, &[write(0, 1)], &[&[0, 1], &[0]]);
+    let saw = commit(0, 1, &[read(0, 1)], &[&[0, 1], &[0]]);
+    let other = commit(1, 0, &[write(0, 2)], &[&[0, 2], &[0]]);
+    let refused = "refused record 4 clause 2 key 0 version 1";
+    for last in [
+        commit(0, 2, &[read(0, 1)], &[&[0], &[0]]),
+        commit(0, 2, &[write(0, 3)], &[&[0, 3], &[0]]),
+        commit(0, 2, &[read(0, 1), write(1, 3)], &[&[0, 2], &[0, 1]]),
+    ] {
+        let records = [wrote.clone(), saw.clone(), other.clone(), last];
+        assert_eq!(ryw(2, 2, &records), refused);
+    }
+    let all = commit(0, 2, &[write(0, 3)], &[&[0, 1, 3], &[0]]);
+    assert_eq!(ryw(2, 2, &[wrote, saw, other, all]), "accepted");
+}
+
+/// The least version of all that are missing, be it the commit's own or not.
+#[test]
+fn read_your_writes_names_the_least_of_the_session() {
+    let lower = commit(0, 0, &[write(0, 1)], &[&[0, 1], &[0]]);
+    let upper = commit(0, 0, &[write(1, 1)], &[&[0], &[0, 1]]);
+    let lost_lower = commit(0, 1, &[read(0, 1), write(1, 2)], &[&[0], &[0]]);
+    let lost_upper = commit(0, 1, &[write(0, 2), read(1, 1)], &[&[0], &[0]]);
+    let refused = "refused record 2 clause 2 key 0 version 1";
+    for records in [[lower, lost_lower], [upper, lost_upper]] {
+        assert_eq!(ryw(2, 1, &records), refused);
+    }
+}
+
+/// "A commit without operations asks nothing": the commit before it, which left
+/// the client without its version, is the one that fails, and the one behind it
+/// is asked again.
+#[test]
+fn read_your_writes_asks_nothing_of_a_commit_without_operations() {
+    let hidden = commit(0, 0, &[write(0, 1)], &[&[0]]);
+    let empty = commit(0, 1, &[], &[&[0]]);
+    let later = commit(0, 2, &[read(0, 0)], &[&[0]]);
+    let records = [hidden, empty, later];
+    let (_, run) = model::facts::taken(&file(1, 1, &records)).expect("it is taken");
+    let missed: Vec<bool> = run
+        .steps
+        .iter()
+        .map(|step| missing(2, step).is_some())
+        .collect();
+    assert_eq!(missed, [true, false, true]);
+    let refused = "refused record 1 clause 2 key 0 version 1";
+    assert_eq!(ryw(1, 1, &records), refused);
 }
 
 /// Every commit has a shift before it, one without operations and one of a

@@ -8,8 +8,9 @@ use model::facts::taken;
 use model::form::{read, read_within};
 use model::generate::{file, taken_case, FORMER_KEYS};
 use model::levels::{
-    least_missing, missing, missing_before, place_of, verdicts, verdicts_by, Clauses,
+    least_missing, missing, missing_before, place_of, session_of, verdicts, verdicts_by, Clauses,
 };
+use model::own_writes::{former_clauses, lacked};
 use model::random::Random;
 use model::relations::{
     compose, dependencies, one_or_more, prefix_paths, prefix_steps, rw, snapshot_paths,
@@ -17,9 +18,10 @@ use model::relations::{
 };
 use model::replay::{replay_file, replay_of, write};
 use model::run::{Run, Step};
-use model::store::{opening_view, writers_in, Key, Store, Version, View};
+use model::store::{opening_view, writers_in, CommitNumber, Key, Store, Version, View};
 use model::trace::{encode, OperationKind, Record, Trace};
 use model::{Refusal, Verdict};
+use std::collections::BTreeSet;
 
 const TRACES: u64 = 4_000;
 
@@ -48,7 +50,7 @@ type Missing = Option<(Key, Version)>;
 
 #[test]
 fn slips_are_noticed() {
-    let slips: [(&str, Clauses); 16] = [
+    let slips: [(&str, Clauses); 20] = [
         ("6 and 7 on direct links only", direct_links_only),
         ("6 and 7 on two steps at most", two_steps_at_most),
         ("6 and 7 without commits that only read", without_readers),
@@ -69,7 +71,11 @@ fn slips_are_noticed() {
             all_of_a_read_writer,
         ),
         ("5 on all keys with an operation", keys_read_too),
+        ("2 of the commit's own versions only", former_clauses),
+        ("2 of the versions before the commit only", all_but_own),
+        ("2 of the last two commits only", last_two_only),
         ("2 of u and the store before the commit", own_writes_in_u),
+        ("2 names its own versions first", own_first),
         (
             "no clause for commits without operations",
             empty_commits_pass,
@@ -232,12 +238,71 @@ fn keys_read_too(clause: u8, step: &Step) -> Missing {
     missing(clause, &wrong)
 }
 
-fn own_writes_in_u(clause: u8, step: &Step) -> Missing {
-    // Nothing is ever missing then.
-    if clause == 2 {
+/// Clause 2 with another session, or with the versions of another store or
+/// another view.
+fn of_session(
+    session: &BTreeSet<CommitNumber>,
+    store: &Store,
+    view: &View,
+    step: &Step,
+) -> Missing {
+    if step.operations.is_empty() {
         return None;
     }
-    missing(clause, step)
+    least_missing(store, view, |key, version| {
+        session.contains(&store.get(key, version).writer)
+    })
+}
+
+/// So the earlier commits' are wanted, and its own are not.
+fn all_but_own(clause: u8, step: &Step) -> Missing {
+    if clause != 2 {
+        return missing(clause, step);
+    }
+    of_session(&session_of(step), &step.store, &step.u_after, step)
+}
+
+fn last_two_only(clause: u8, step: &Step) -> Missing {
+    if clause != 2 {
+        return missing(clause, step);
+    }
+    let session = session_of(step).into_iter().rev().take(2).collect();
+    of_session(&session, &step.store_after, &step.u_after, step)
+}
+
+fn own_writes_in_u(clause: u8, step: &Step) -> Missing {
+    if clause != 2 {
+        return missing(clause, step);
+    }
+    of_session(&session_of(step), &step.store, &step.u, step)
+}
+
+/// The truth is the same; another version may be named.
+fn own_first(clause: u8, step: &Step) -> Missing {
+    former_clauses(clause, step).or_else(|| missing(clause, step))
+}
+
+/// Clause 2 asked of every commit, also of those without operations.
+fn of_empty_commits(clause: u8, step: &Step) -> Missing {
+    if clause != 2 {
+        return missing(clause, step);
+    }
+    lacked(step).first().copied()
+}
+
+/// What the client of a commit without operations lacks it has lacked since an
+/// earlier commit, which has failed clause 2: that the clause asks nothing of
+/// such a commit can be told from the clause, and from no verdict.
+#[test]
+fn a_slip_that_no_verdict_tells() {
+    let mut noticed = 0;
+    for (_, run) in traces(TRACES) {
+        assert_eq!(verdicts_by(&run, of_empty_commits), verdicts(&run));
+        let other = |step: &&Step| of_empty_commits(2, step) != missing(2, step);
+        noticed += run.steps.iter().filter(other).count();
+    }
+    println!("clause 2 of commits without operations: noticed at {noticed} commits");
+    assert!(noticed > 0);
 }
 
 fn empty_commits_pass(clause: u8, step: &Step) -> Missing {

@@ -60,7 +60,7 @@ pub struct Verdicts {
 /// | clause | wants |
 /// |---|---|
 /// | 1 | all that the view before holds |
-/// | 2 | the versions that the commit wrote |
+/// | 2 | all versions by the commit and by those before it in its session, if the commit has operations |
 /// | 3 | all versions by the commits before t in its session |
 /// | 4 | each version that t, or a commit before t in its session, read |
 /// | 5 | every version of each key that the commit writes |

@@ -14,7 +14,7 @@ use crate::trace::{commit_len, shift_len, Operation, OperationKind, Record, Trac
 use std::collections::BTreeSet;
 use std::rc::Rc;
 
-type Writers = BTreeSet<CommitNumber>;
+pub(super) type Writers = BTreeSet<CommitNumber>;
 
 /// What a client sees more of before it commits.
 #[derive(Clone, Copy, PartialEq, Eq, Debug)]
@@ -199,7 +199,7 @@ pub fn number_of_keys(random: &mut Random, used: usize) -> usize {
 }
 
 /// So many different ones of so many keys, in any order.
-fn some_keys(random: &mut Random, number: usize, keys: usize) -> Vec<Key> {
+pub(super) fn some_keys(random: &mut Random, number: usize, keys: usize) -> Vec<Key> {
     let mut left: Vec<Key> = (0..keys).map(Key).collect();
     (0..number)
         .map(|_| left.swap_remove(random.below(left.len())))
@@ -556,10 +556,10 @@ fn filling() -> (usize, usize) {
 }
 
 /// The trace so far, with the state after its last record.
-struct Builder {
+pub(super) struct Builder {
     trace: Trace,
     states: Vec<State>,
-    state: State,
+    pub(super) state: State,
     /// How many shifts there is room for in the file, beyond one before each
     /// commit, were all its commits as long as they can be.
     spare_shifts: usize,
@@ -567,7 +567,7 @@ struct Builder {
 
 impl Builder {
     /// For a trace of so many commits, and one more that a fault may add.
-    fn new(keys: usize, clients: usize, commits: usize) -> Builder {
+    pub(super) fn new(keys: usize, clients: usize, commits: usize) -> Builder {
         let longest = shift_len(keys) + commit_len(2 * keys, keys);
         let needed = Store::MIN_BYTES + (commits + 1) * longest;
         let view = Rc::new(opening_view(keys));
@@ -588,19 +588,19 @@ impl Builder {
         }
     }
 
-    fn built(self) -> Built {
+    pub(super) fn built(self) -> Built {
         Built {
             trace: self.trace,
             states: self.states,
         }
     }
 
-    fn next_commit(&self) -> CommitNumber {
+    pub(super) fn next_commit(&self) -> CommitNumber {
         CommitNumber(self.state.store.authors.len() + 1)
     }
 
     /// The writers that a client sees.
-    fn seen(&self, client: usize) -> Writers {
+    pub(super) fn seen(&self, client: usize) -> Writers {
         writers_in(&self.state.store, &self.state.views[client])
     }
 
@@ -633,7 +633,13 @@ impl Builder {
     }
 
     /// A commit whose view after holds the given writers.
-    fn commit(&mut self, client: usize, session: u32, operations: Vec<Operation>, after: &Writers) {
+    pub(super) fn commit(
+        &mut self,
+        client: usize,
+        session: u32,
+        operations: Vec<Operation>,
+        after: &Writers,
+    ) {
         let author = Author { client, session };
         let u = &self.state.views[client];
         let store = self.state.store.with_commit(author, &operations, u);
@@ -650,7 +656,7 @@ impl Builder {
     }
 
     /// Gives reads the value that they must have, and writes a new one.
-    fn with_values(
+    pub(super) fn with_values(
         &self,
         client: usize,
         accesses: &[(OperationKind, Key)],
@@ -672,7 +678,7 @@ impl Builder {
 
     /// One commit that loses nothing, after a shift to the given writers and
     /// what the rules want with them. The client has made few commits.
-    fn plain_commit(
+    pub(super) fn plain_commit(
         &mut self,
         random: &mut Random,
         client: usize,
@@ -700,7 +706,7 @@ impl Builder {
 
     /// One commit as a style has it, with a shift before it if it needs one.
     /// Nothing comes of it if the client has no session number left.
-    fn styled_commit(&mut self, random: &mut Random, style: &Style, client: usize) {
+    pub(super) fn styled_commit(&mut self, random: &mut Random, style: &Style, client: usize) {
         let Some(session) = self.next_session(random, style.numbering, client) else {
             return;
         };
