@@ -112,9 +112,9 @@ fn clause_2_wants_the_versions_of_the_client() {
 #[test]
 fn a_seed_gives_one_file() {
     let files: Vec<Vec<u8>> = (0..2_000).map(file).collect();
-    assert_eq!(fingerprint(&files.concat()), 0x143B_633E_3A61_C0F2);
+    assert_eq!(fingerprint(&files.concat()), 0xECAA_6526_5A2B_F399);
     let different: BTreeSet<&Vec<u8>> = files.iter().collect();
-    assert_eq!(different.len(), 1_995);
+    assert_eq!(different.len(), 1_997);
 }
 
 /// FNV-1a, which is the same on every machine.

@@ -39,7 +39,7 @@ fn generated_files() {
     for combination in possible_combinations() {
         met.insert(combination, 0);
     }
-    for seed in 0..16_000 {
+    for seed in 0..8_000 {
         let file = case(seed).bytes;
         let outcome = outcome(&file);
         let sort = match &outcome {

@@ -72,8 +72,10 @@ pub struct Style {
     pub lapses: usize,
     /// Views after without the commit's own versions.
     pub hides_own: usize,
-    /// Writers lost, of those that a view after may lose.
+    /// Writers lost, of those that a view after may lose; the client's own ones
+    /// too, or not.
     pub loses: usize,
+    pub loses_own: bool,
     /// Writers gained, of those that a view after may gain.
     pub gains: usize,
     /// Commits without operations, and without writes.
@@ -173,7 +175,8 @@ impl Style {
             keeping: some_rules(random, commits),
             lapses: random.pick(&[0, 0, 0, 5, 20]),
             hides_own: random.pick(&[0, 0, 0, 5, 40]),
-            loses: random.pick(&[0, 0, 0, 3, 30]),
+            loses: random.pick(&[0, 0, 3, 10, 30]),
+            loses_own: random.percent(40),
             gains: random.pick(&[0, 0, 10, 50]),
             empty: random.pick(&[0, 0, 5, 20]),
             only_reads: random.pick(&[0, 20, 40]),
@@ -495,6 +498,7 @@ fn largest_style(random: &mut Random) -> Style {
         lapses: 0,
         hides_own: random.pick(&[0, 2]),
         loses: random.pick(&[0, 0, 5]),
+        loses_own: true,
         gains: random.pick(&[0, 5]),
         empty: 0,
         only_reads: 0,
@@ -736,7 +740,8 @@ impl Builder {
         let mut after = writers.clone();
         for writer in self.free_writers(&touched) {
             if writers.contains(&writer) {
-                if random.percent(style.loses) {
+                let own = self.state.store.author(writer).client == client;
+                if (style.loses_own || !own) && random.percent(style.loses) {
                     after.remove(&writer);
                 }
             } else if random.percent(style.gains) {
