@@ -1,14 +1,21 @@
 // Every call for callers in Rust and C, each with all that is promised of it. A call is lent a trace file, the places that it writes to, and words for its
 // answer; it answers a code, and nothing is asked of its caller. Which word is what stands in crates/words/specs/Layout.antt: a refusal has the same
 // words for all calls. What the answer is stands in the definitions that the contracts name.
+mod sessions; // sessions.rt: the close of a session, with the record by value
+
+use pieces::Session;
 ghost use mathlib.Core.Path.{_≡_};
-ghost use Prim.Native.Nat.{_≤_, _<_};
+ghost use mathlib.Core.List.{List, [], _++_};
+ghost use Prim.Native.Nat.{ℕ, _≤_, _<_};
 ghost use lib.ListN.{length};
 ghost use Rattle.endian.specs.Endian.{putAt};
 ghost use Rattle.answer.specs.Answer.{imageAfter, ImageFits};
 ghost use Rattle.answer.specs.Demand3.{Demand3};
 ghost use Rattle.answer.specs.Written.{replayAnswer, replayAfter, ReplayFits, ReadsBack};
 ghost use Rattle.judging.specs.Answers.{toldAnswer};
+ghost use Rattle.pieces.specs.Piece.{opened, pieceCode, counted, keptAfter};
+ghost use Rattle.pieces.specs.Close.{closeAnswer, closeImage, RefusalKeepsImage, shut};
+ghost use Rattle.pieces.specs.Has.{Has, JudgesJoined};
 ghost use Rattle.report.specs.Report.{reportText};
 ghost use Rattle.report.specs.Longest.{longestReport};
 ghost use Rattle.words.specs.Layout.{noRoom, refusalLength, replayWords, answerLength, answerWords, codeOf};
@@ -82,4 +89,88 @@ pub extern "C" fn report_file(file: &[u8], image: &mut [u8], text: &mut [u8]) ->
         return 0;
     }
     report::write(judging::judge(file, image), text)
+}
+
+// ---- a trace file that comes in pieces (02, E5)
+
+// Opens a session: `session` is a record that has taken no bytes, whatever it was.
+#[no_mangle]
+pub extern "C" fn open_session(session: &mut Session)
+    ensures { λ _. ⌜ (now (session .exit) ≡ opened) × ((kept : List ℕ) → Has [] (now (session .exit)) kept) ⌝ }
+{
+    *session = pieces::open();
+}
+
+// Takes a piece, behind those before it: 0; or 18 after the close, and nothing is changed. The bytes are kept in `kept`, as far as it has room and a file
+// may have them, and all are counted.
+#[no_mangle]
+pub extern "C" fn push_piece(session: &mut Session, kept: &mut [u8], piece: &[u8]) -> u64
+    ensures piece { λ r. ⌜
+        (r ≡ pieceCode (now (session .entry)))
+        × (now (session .exit) ≡ counted (now (session .entry)) (length (now (piece .entry))))
+        × (now (kept .exit) ≡ keptAfter (now (session .entry)) (now (kept .entry)) (now (piece .entry)))
+        ⌝ }
+    ensures has { λ _. ⌜
+        ((bytes : List ℕ) → Has bytes (now (session .entry)) (now (kept .entry)) → Has (bytes ++ now (piece .entry)) (now (session .exit)) (now (kept .exit)))
+        ⌝ }
+{
+    pieces::push(session, kept, piece)
+}
+
+// Judges what was kept, as `judge_file` does a file, and closes the session; or a refusal with codes 1 to 15; 17, where what came has no room in `kept`; 18,
+// after the close, and nothing is changed. A refusal leaves `image` as it came, and has closed. Where there is no room for the words nothing is done, and
+// the session stays as it was. The answer for a record that has taken some bytes, with a buffer that has room for them, is that of `judge_file` for these bytes.
+#[no_mangle]
+pub extern "C" fn close_session(
+    session: &mut Session,
+    kept: &[u8],
+    image: &mut [u8],
+    out: &mut [u64],
+) -> u64
+    ensures room { λ r. ⌜
+        (length (now (out .entry)) < answerLength
+        → (r ≡ noRoom) × (now (out .exit) ≡ now (out .entry)) × (now (image .exit) ≡ now (image .entry)) × (now (session .exit) ≡ now (session .entry)))
+        ⌝ }
+    ensures answer { λ r. ⌜
+        (answerLength ≤ length (now (out .entry))
+        → (r ≡ codeOf (closeAnswer (now (session .entry)) (now (kept .entry)) (length (now (image .entry)))))
+        × (now (out .exit) ≡ putAt (now (out .entry)) 0 (answerWords (closeAnswer (now (session .entry)) (now (kept .entry)) (length (now (image .entry))))))
+        × (now (image .exit) ≡ closeImage (now (session .entry)) (now (kept .entry)) (now (image .entry)))
+        × (now (session .exit) ≡ shut (now (session .entry))))
+        ⌝ }
+    ensures joined { λ _. ⌜ JudgesJoined (now (session .entry)) (now (kept .entry)) (now (image .entry)) ⌝ }
+    ensures refused { λ _. ⌜ RefusalKeepsImage (now (session .entry)) (now (kept .entry)) (now (image .entry)) ⌝ }
+{
+    let step = sessions::in_words(*session, kept, image, out);
+    *session = step.session;
+    step.code
+}
+
+// The report on what was kept, as `report_file` writes it, and its length; the session is closed, and `image` left, as `close_session` does. Where `text` is
+// shorter than the longest report nothing is done, the session stays as it was, and 0 is answered.
+#[no_mangle]
+pub extern "C" fn report_session(
+    session: &mut Session,
+    kept: &[u8],
+    image: &mut [u8],
+    text: &mut [u8],
+) -> usize
+    ensures room { λ r. ⌜
+        (length (now (text .entry)) < longestReport
+        → (r ≡ 0) × (now (text .exit) ≡ now (text .entry)) × (now (image .exit) ≡ now (image .entry)) × (now (session .exit) ≡ now (session .entry)))
+        ⌝ }
+    ensures report { λ r. ⌜
+        (longestReport ≤ length (now (text .entry))
+        → (r ≡ length (reportText (closeAnswer (now (session .entry)) (now (kept .entry)) (length (now (image .entry))))))
+        × (now (text .exit) ≡ putAt (now (text .entry)) 0 (reportText (closeAnswer (now (session .entry)) (now (kept .entry)) (length (now (image .entry))))))
+        × (now (image .exit) ≡ closeImage (now (session .entry)) (now (kept .entry)) (now (image .entry)))
+        × (now (session .exit) ≡ shut (now (session .entry))))
+        ⌝ }
+    ensures longest { λ r. ⌜ r ≤ longestReport ⌝ }
+    ensures joined { λ _. ⌜ JudgesJoined (now (session .entry)) (now (kept .entry)) (now (image .entry)) ⌝ }
+    ensures refused { λ _. ⌜ RefusalKeepsImage (now (session .entry)) (now (kept .entry)) (now (image .entry)) ⌝ }
+{
+    let end = sessions::as_text(*session, kept, image, text);
+    *session = end.session;
+    end.length
 }

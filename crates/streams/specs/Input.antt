@@ -5,7 +5,11 @@ use lib.ListN.{length}
 use Rattle.streams.specs.declared.Input.{Input}
 use Rattle.streams.specs.declared.Input.the-variants.{Whole, Failed}
 
--- the bytes that were read stand at the start of the buffer
+-- so many bytes were read
+abbrev pub bytesRead : Input → ℕ
+bytesRead (Whole n) = n
+bytesRead Failed = 0
+
+-- they stand at the start of the buffer
 abbrev pub Within : Input → List ℕ → Type 0
-Within (Whole n) buffer = n ≤ length buffer
-Within Failed buffer = Unit {0}
+Within r buffer = bytesRead r ≤ length buffer

@@ -4,13 +4,13 @@
 use libc::types::timespec;
 ghost use mathlib.Core.Path.{_≡_};
 ghost use mathlib.Core.Bool.{true};
-ghost use Prim.Native.Nat.{_≤_, _<_};
+ghost use Prim.Native.Nat.{_+_, _≤_, _<_};
 ghost use lib.ListN.{length};
-ghost use Rattle.streams.specs.Input.{Within};
+ghost use Rattle.streams.specs.Input.{bytesRead, Within};
 
 // How the reading of a descriptor ended.
 pub enum Input {
-    // All was read, or as much as the buffer takes: so many bytes.
+    // All was read that was asked for, or as much as the buffer takes: so many bytes.
     Whole(usize),
     // A read failed. What was read before it is no input.
     Failed,
@@ -50,11 +50,34 @@ fn again(left: usize, name: &[u8]) -> bool
     false
 }
 
-// One read, to the part of the buffer from `done` on: what the system answered.
-fn read_on(fd: i32, buffer: &mut [u8], done: usize) -> isize
-    requires { ⌜ done ≤ length (now buffer) ⌝ }
+// Reads what there is, as soon as there is any, and no more than the buffer takes: 0 bytes at the end of the input, or for an empty buffer; `name` is what a
+// failure is told of.
+pub fn read_some(fd: i32, name: &[u8], buffer: &mut [u8]) -> Input
+    ensures { λ r. ⌜ Within r (now (buffer .exit)) ⌝ }
 {
-    libc::read(fd, &mut buffer[done..])
+    let mut left = PATIENCE;
+    loop {
+        let got = libc::read(fd, buffer);
+        if got == 0 {
+            return Input::Whole(0);
+        }
+        let n = io::count(got, buffer);
+        if n > 0 {
+            return Input::Whole(n);
+        }
+        if !again(left, name) {
+            return Input::Failed;
+        }
+        left = left - 1;
+    }
+}
+
+// Reads to the part of the buffer from `done` on.
+fn read_on(fd: i32, name: &[u8], buffer: &mut [u8], done: usize) -> Input
+    requires { ⌜ done ≤ length (now buffer) ⌝ }
+    ensures { λ r. ⌜ done + bytesRead r ≤ length (now (buffer .exit)) ⌝ }
+{
+    read_some(fd, name, &mut buffer[done..])
 }
 
 // Reads to the end of the input, or until the buffer is full; `name` is what a failure is told of.
@@ -62,22 +85,14 @@ pub fn read_whole(fd: i32, name: &[u8], buffer: &mut [u8]) -> Input
     ensures { λ r. ⌜ Within r (now (buffer .exit)) ⌝ }
 {
     let mut done: usize = 0;
-    let mut left = PATIENCE;
     while done < buffer.len() {
-        let got = read_on(fd, buffer, done);
-        if got == 0 {
+        let Input::Whole(n) = read_on(fd, name, buffer, done) else {
+            return Input::Failed;
+        };
+        if n == 0 {
             return Input::Whole(done);
         }
-        let more = io::count(got, &buffer[done..]);
-        if more > 0 {
-            done = done + more;
-            left = PATIENCE;
-        } else {
-            if !again(left, name) {
-                return Input::Failed;
-            }
-            left = left - 1;
-        }
+        done = done + n;
     }
     Input::Whole(done)
 }

@@ -1,0 +1,4 @@
+pub mod Placed
+pub mod Taken
+pub mod Judged
+pub mod Clauses
