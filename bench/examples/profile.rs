@@ -1,8 +1,9 @@
 //! Runs one judge on the timed traces again and again, for a profiler:
-//! `profile ordinary|proved [all|serial|snapshot|wild] [ROUNDS] [judge|replay]
-//! [KEYS]`, over 16 keys if nothing else is said.
+//! `profile ordinary|proved [all|serial|snapshot|wild] [ROUNDS]
+//! [judge|replay|"in 4,096"|"in 64"] [KEYS]`, over 16 keys if nothing else is
+//! said.
 
-use bench::contender::{contenders, JUDGE, REPLAY};
+use bench::contender::{contenders, JUDGE, LARGE_PIECES, REPLAY, SMALL_PIECES};
 use bench::form::COMMITS;
 use bench::traces::timed;
 use std::env::args;
@@ -15,8 +16,9 @@ fn main() {
         .nth(3)
         .map_or(100, |text| text.parse().expect("a number of rounds"));
     let call = args().nth(4).unwrap_or("judge".into());
-    let call = [JUDGE, REPLAY].into_iter().find(|timed| timed.name == call);
-    let call = call.expect("the call: judge or replay");
+    let calls = [JUDGE, REPLAY, LARGE_PIECES, SMALL_PIECES];
+    let call = calls.into_iter().find(|timed| timed.name == call);
+    let call = call.expect("the call: judge, replay or the pieces");
     let keys: usize = args()
         .nth(5)
         .map_or(16, |text| text.parse().expect("a number of keys"));
@@ -30,7 +32,7 @@ fn main() {
     let mut buffer = vec![0; call.room];
     for _ in 0..rounds {
         for trace in &traces {
-            contender.call(call.call, black_box(&trace.bytes), &mut buffer);
+            contender.call(&call, black_box(&trace.bytes), &mut buffer);
         }
     }
 }

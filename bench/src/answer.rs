@@ -14,7 +14,7 @@ pub enum Replay {
     Written(u32),
 }
 
-/// A code from 1 to 17; record, key and version are 0 where not named.
+/// A code from 1 to 18; record, key and version are 0 where not named.
 #[derive(Clone, Copy, PartialEq, Eq, Debug)]
 pub struct Refusal {
     pub code: u8,

@@ -2,18 +2,15 @@
 
 use crate::proved::proved;
 use crate::traces::Trace;
-use crate::{Answer, Judge, Refusal, Replay};
-use model::words::{judge_words, replay_words};
+use crate::{Answer, Judge, Refusal, Replay, Session};
+use model::words::{judge_words, replay_words, JUDGE as WORDS};
 use model::{image, replay, Call};
-
-/// The most words that an answer has: four numbers, and four for each level.
-const WORDS: usize = 44;
 
 pub trait Contender {
     fn name(&self) -> &'static str;
 
     /// The call that is timed: its answer is kept.
-    fn call(&mut self, call: Call, file: &[u8], buffer: &mut [u8]);
+    fn call(&mut self, timed: &Timed, file: &[u8], buffer: &mut [u8]);
 
     /// The words of the answer that is kept of a call, and zeros up to the most
     /// words.
@@ -25,6 +22,7 @@ pub fn contenders() -> Vec<Box<dyn Contender>> {
     let nothing = Refusal::at(1, 0);
     let ordinary: Box<dyn Contender> = Box::new(Ordinary {
         judge: Judge::new(),
+        session: Session::open(),
         answer: Answer::Refused(nothing),
         replay: Replay::Refused(nothing),
     });
@@ -33,6 +31,7 @@ pub fn contenders() -> Vec<Box<dyn Contender>> {
 
 struct Ordinary {
     judge: Judge,
+    session: Session,
     answer: Answer,
     replay: Replay,
 }
@@ -42,16 +41,23 @@ impl Contender for Ordinary {
         "ordinary"
     }
 
-    fn call(&mut self, call: Call, file: &[u8], buffer: &mut [u8]) {
-        match call {
+    fn call(&mut self, timed: &Timed, file: &[u8], buffer: &mut [u8]) {
+        match timed.call {
             Call::Judge => self.answer = self.judge.judge(file, buffer),
             Call::Replay => self.replay = self.judge.replay(file, buffer),
+            Call::Port => {
+                self.session.reopen();
+                for piece in file.chunks(timed.at_a_time) {
+                    self.session.push(piece).expect("it is open");
+                }
+                self.answer = self.session.close(&mut self.judge, buffer);
+            }
         }
     }
 
     fn words(&self, call: Call) -> Vec<u64> {
         let mut words = match call {
-            Call::Judge => judge_words(&self.answer.into()),
+            Call::Judge | Call::Port => judge_words(&self.answer.into()),
             Call::Replay => replay_words(&self.replay.into()),
         };
         words.resize(WORDS, 0);
@@ -59,11 +65,13 @@ impl Contender for Ordinary {
     }
 }
 
-/// A call with a buffer of some length, and the code that it must answer.
+/// A call with a buffer of some length, and the code that it must answer; and
+/// how long the pieces are in which it is given a file, if it takes pieces.
 #[derive(Clone, Copy)]
 pub struct Timed {
     pub name: &'static str,
     pub call: Call,
+    pub at_a_time: usize,
     pub room: usize,
     pub code: u64,
 }
@@ -71,6 +79,7 @@ pub struct Timed {
 pub const JUDGE: Timed = Timed {
     name: "judge",
     call: Call::Judge,
+    at_a_time: usize::MAX,
     room: image::LONGEST,
     code: 0,
 };
@@ -78,16 +87,30 @@ pub const JUDGE: Timed = Timed {
 /// The judge where it may write nothing: the trace is taken, and that is all.
 pub const TAKING: Timed = Timed {
     name: "taking",
-    call: Call::Judge,
     room: 0,
     code: 15,
+    ..JUDGE
 };
 
 pub const REPLAY: Timed = Timed {
     name: "replay",
     call: Call::Replay,
     room: replay::LONGEST,
-    code: 0,
+    ..JUDGE
+};
+
+/// The judge of a file that comes in pieces of 4,096 bytes, and of 64.
+pub const LARGE_PIECES: Timed = Timed {
+    name: "in 4,096",
+    call: Call::Port,
+    at_a_time: 4_096,
+    ..JUDGE
+};
+
+pub const SMALL_PIECES: Timed = Timed {
+    name: "in 64",
+    at_a_time: 64,
+    ..LARGE_PIECES
 };
 
 /// Fails unless every contender answers a call for every trace with the code
@@ -98,7 +121,7 @@ pub fn check(contenders: &mut [Box<dyn Contender>], timed: &Timed, traces: &[Tra
         let mut first = None;
         for contender in contenders.iter_mut() {
             let mut buffer = vec![0xa5; timed.room];
-            contender.call(timed.call, &trace.bytes, &mut buffer);
+            contender.call(timed, &trace.bytes, &mut buffer);
             let words = contender.words(timed.call);
             let name = format!("{}, {}, trace {place}", timed.name, contender.name());
             assert_eq!(words[0], timed.code, "{name}: another code");

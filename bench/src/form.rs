@@ -11,7 +11,7 @@ pub const COMMITS: usize = 63;
 /// The most operations a commit has.
 const OPERATIONS: usize = 2 * KEYS;
 const MIN_BYTES: usize = 12;
-const MAX_BYTES: usize = 65_536;
+pub const MAX_BYTES: usize = 65_536;
 
 /// One mask of versions for each key; keys that the trace has not are 0, so
 /// that loops over a row have a fixed length.

@@ -1,5 +1,6 @@
-//! An ordinary fast judge of trace files, which writes replays too, the traces
-//! it is timed with, and the proved calls to be timed beside it.
+//! An ordinary fast judge of trace files, which writes replays too and takes
+//! files in pieces, the traces it is timed with, and the proved calls to be timed
+//! beside it.
 
 pub mod answer;
 pub mod contender;
@@ -9,4 +10,4 @@ pub mod proved;
 pub mod traces;
 
 pub use answer::{Answer, Refusal, Replay, Report, Verdict};
-pub use ordinary::Judge;
+pub use ordinary::{Judge, Session};

@@ -1,12 +1,15 @@
 //! The benchmark: times the ordinary judge, and the proved one beside it if it
 //! is linked in (feature `proved`), round by round on the same traces, over 16
-//! keys and over 32; what of that goes to the arrays; then the replay beside the
-//! judge. With `--short` it leaves out how the times grow.
+//! keys and over 32; what of that goes to the arrays; then files that come in
+//! pieces, and the replay, beside the judge. With `--short` it leaves out how the
+//! times grow.
 
 use std::hint::black_box;
 use std::time::Instant;
 
-use bench::contender::{check, contenders, Contender, Timed, JUDGE, REPLAY, TAKING};
+use bench::contender::{
+    check, contenders, Contender, Timed, JUDGE, LARGE_PIECES, REPLAY, SMALL_PIECES, TAKING,
+};
 use bench::form::COMMITS;
 use bench::traces::{asking, describe, timed, Style, Trace, NUMBER};
 
@@ -95,7 +98,7 @@ fn time_each<const N: usize>(
             let mut spent = Vec::with_capacity(traces.len());
             let mut start = Instant::now();
             for trace in traces {
-                contender.call(timed.call, black_box(&trace.bytes), buffer);
+                contender.call(timed, black_box(&trace.bytes), buffer);
                 let end = Instant::now();
                 spent.push((end - start).as_secs_f64() * 1e6);
                 start = end;
@@ -195,6 +198,53 @@ fn print_arrays(contenders: &[Box<dyn Contender>], headers: &[Times], sizes: [&[
     }
 }
 
+/// Files that come in pieces beside the judge of the whole file; what they need
+/// beyond it is the pushing of the pieces.
+fn print_pieces(contenders: &mut [Box<dyn Contender>], sizes: [&[Trace]; 2]) {
+    for (keys, traces) in KEYS.into_iter().zip(sizes) {
+        println!("\nin pieces, {keys} keys: {}", describe(traces));
+        println!("pushing: the time less that of the judge; of 4,096 bytes each, and of 64");
+        let rows = [&JUDGE, &LARGE_PIECES, &SMALL_PIECES];
+        for timed in rows {
+            check(contenders, timed, traces);
+        }
+        let times = time_each(contenders, rows.map(|timed| (timed, traces)));
+        let all: Vec<usize> = (0..traces.len()).collect();
+        print_head(contenders);
+        for way in Way::ALL {
+            let means = times.each_ref().map(|times| means(times, way, &all));
+            for (timed, times) in rows.iter().zip(&means) {
+                print_row(timed.name, way, times);
+            }
+            for pushed in &means[1..] {
+                print_row("pushing", way, &less(pushed, &means[0]));
+            }
+        }
+    }
+}
+
+/// The mean time of each contender for the traces with these places.
+fn means(times: &[Times], way: Way, places: &[usize]) -> Vec<f64> {
+    times.iter().map(|times| times.of(way, places)).collect()
+}
+
+/// What one needs beyond the other, for each contender.
+fn less(one: &[f64], other: &[f64]) -> Vec<f64> {
+    one.iter()
+        .zip(other)
+        .map(|(one, other)| one - other)
+        .collect()
+}
+
+/// The head of a table with a column for each contender.
+fn print_head(contenders: &[Box<dyn Contender>]) {
+    print!("{:<12} {:>10}", "", "");
+    for contender in contenders.iter() {
+        print!(" {:>9}", contender.name());
+    }
+    println!("{}", "     ratio".repeat(contenders.len() - 1));
+}
+
 /// The replay beside the judge, on those of the traces that have one. Taking is
 /// the judge without an image buffer, which takes the trace and writes nothing,
 /// so that what the replay needs beyond it is the writing of the file.
@@ -212,17 +262,10 @@ fn print_replay(contenders: &mut [Box<dyn Contender>], mut traces: Vec<Trace>) {
     println!("taking: the judge with no image buffer; writing: replay less taking");
     let times = time_each(contenders, rows.map(|timed| (timed, &traces[..])));
     let all: Vec<usize> = (0..traces.len()).collect();
-    print!("{:<12} {:>10}", "", "");
-    for contender in contenders.iter() {
-        print!(" {:>9}", contender.name());
-    }
-    println!("{}", "     ratio".repeat(contenders.len() - 1));
+    print_head(contenders);
     for way in Way::ALL {
-        let [judge, taking, replay] = times
-            .each_ref()
-            .map(|times| -> Vec<f64> { times.iter().map(|times| times.of(way, &all)).collect() });
-        let writing = replay.iter().zip(&taking).map(|(all, taking)| all - taking);
-        let writing: Vec<f64> = writing.collect();
+        let [judge, taking, replay] = times.each_ref().map(|times| means(times, way, &all));
+        let writing = less(&replay, &taking);
         for (name, times) in [
             (JUDGE.name, judge),
             (TAKING.name, taking),
@@ -249,18 +292,13 @@ fn print_asking(contenders: &mut [Box<dyn Contender>]) {
             "\npaths of links, CP and SI accepted, {keys} keys: {}",
             describe(traces)
         );
-        print!("{:<12} {:>10}", "", "");
-        for contender in contenders.iter() {
-            print!(" {:>9}", contender.name());
-        }
-        println!("{}", "     ratio".repeat(contenders.len() - 1));
+        print_head(contenders);
         for style in Style::ASKING {
             let places: Vec<usize> = (0..traces.len())
                 .filter(|&place| traces[place].style == style)
                 .collect();
             for way in Way::ALL {
-                let means: Vec<f64> = times.iter().map(|times| times.of(way, &places)).collect();
-                print_row(style.name(), way, &means);
+                print_row(style.name(), way, &means(times, way, &places));
             }
         }
     }
@@ -282,7 +320,7 @@ fn print_row(name: &str, way: Way, times: &[f64]) {
 fn mean_replay(contender: &mut Box<dyn Contender>, traces: &[Trace]) -> u64 {
     let mut buffer = vec![0; REPLAY.room];
     let length = |trace: &Trace| {
-        contender.call(REPLAY.call, &trace.bytes, &mut buffer);
+        contender.call(&REPLAY, &trace.bytes, &mut buffer);
         contender.words(REPLAY.call)[1]
     };
     traces.iter().map(length).sum::<u64>() / traces.len() as u64
@@ -336,6 +374,7 @@ fn main() {
 
     let [long, wide] = KEYS.map(|keys| timed(COMMITS, keys));
     print_judge(&mut contenders, [&long, &wide]);
+    print_pieces(&mut contenders, [&long, &wide]);
     drop(wide);
     print_replay(&mut contenders, long);
     print_asking(&mut contenders);

@@ -14,6 +14,9 @@
 //! workspace of its own: half of the keys, for a trace that has no more, and all.
 
 mod replay;
+mod session;
+
+pub use session::Session;
 
 use crate::answer::{Answer, Refusal, Report, Verdict};
 use crate::form::{

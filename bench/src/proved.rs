@@ -1,6 +1,8 @@
 //! The proved calls, to be timed beside the ordinary judge.
 
 use crate::contender::Contender;
+#[cfg(feature = "proved")]
+use crate::contender::Timed;
 
 /// The proved calls, if they are linked in.
 #[cfg(not(feature = "proved"))]
@@ -11,12 +13,18 @@ pub fn proved() -> Option<Box<dyn Contender>> {
 /// The proved calls, if they are linked in.
 #[cfg(feature = "proved")]
 pub fn proved() -> Option<Box<dyn Contender>> {
-    Some(Box::new(Proved([0; consistency::JUDGE_WORDS])))
+    Some(Box::new(Proved {
+        words: [0; consistency::JUDGE_WORDS],
+        kept: vec![0; consistency::LONGEST_FILE],
+    }))
 }
 
-/// The words of the last answer.
+/// The words of the last answer, and room for the pieces of a file.
 #[cfg(feature = "proved")]
-struct Proved([u64; consistency::JUDGE_WORDS]);
+struct Proved {
+    words: [u64; consistency::JUDGE_WORDS],
+    kept: Vec<u8>,
+}
 
 #[cfg(feature = "proved")]
 impl Contender for Proved {
@@ -24,15 +32,23 @@ impl Contender for Proved {
         "proved"
     }
 
-    fn call(&mut self, call: model::Call, file: &[u8], buffer: &mut [u8]) {
-        self.0.fill(0);
-        match call {
-            model::Call::Judge => consistency::judge_words(file, buffer, &mut self.0),
-            model::Call::Replay => consistency::replay_words(file, buffer, &mut self.0),
+    fn call(&mut self, timed: &Timed, file: &[u8], buffer: &mut [u8]) {
+        let Proved { words, kept } = self;
+        words.fill(0);
+        match timed.call {
+            model::Call::Judge => consistency::judge_words(file, buffer, words),
+            model::Call::Replay => consistency::replay_words(file, buffer, words),
+            model::Call::Port => {
+                let mut record = consistency::SessionRecord::default();
+                for piece in file.chunks(timed.at_a_time) {
+                    consistency::push_piece(&mut record, kept, piece);
+                }
+                consistency::close_session(&mut record, kept, buffer, words)
+            }
         };
     }
 
     fn words(&self, _: model::Call) -> Vec<u64> {
-        self.0.to_vec()
+        self.words.to_vec()
     }
 }

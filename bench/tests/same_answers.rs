@@ -3,7 +3,7 @@
 
 use bench::form::COMMITS;
 use bench::traces::{asking, describe, timed, traces, Trace};
-use bench::Judge;
+use bench::{Judge, Session};
 use model::buffer::{pattern, untouched, LONG};
 use model::facts::accepts;
 use model::met::Met;
@@ -26,6 +26,15 @@ fn compare(
     let code = match call {
         Call::Judge => {
             let answer = Answer::from(judge.judge(bytes, &mut buffer));
+            assert_eq!(answer, model::answer(outcome, &mut due), "{name}");
+            answer.code()
+        }
+        Call::Port => {
+            let mut session = Session::open();
+            for piece in bytes.chunks(1 + room % 99) {
+                session.push(piece).expect("it is open");
+            }
+            let answer = Answer::from(session.close(judge, &mut buffer));
             assert_eq!(answer, model::answer(outcome, &mut due), "{name}");
             answer.code()
         }
@@ -169,7 +178,7 @@ fn refusing(traces: &[Trace]) -> [usize; 10] {
 #[cfg(feature = "proved")]
 #[test]
 fn proved_calls_on_timed_traces() {
-    use bench::contender::{check, contenders, JUDGE, REPLAY, TAKING};
+    use bench::contender::{check, contenders, JUDGE, LARGE_PIECES, REPLAY, SMALL_PIECES, TAKING};
     use bench::traces::Style;
     let mut contenders = contenders();
     assert_eq!(contenders.len(), 2, "they are linked in");
@@ -177,6 +186,8 @@ fn proved_calls_on_timed_traces() {
     for keys in [16, 32] {
         let mut traces = timed(COMMITS, keys);
         check(&mut contenders, &JUDGE, &traces);
+        check(&mut contenders, &LARGE_PIECES, &traces);
+        check(&mut contenders, &SMALL_PIECES, &traces);
         traces.retain(|trace| trace.style == Style::Serial);
         check(&mut contenders, &TAKING, &traces);
         check(&mut contenders, &REPLAY, &traces);
@@ -199,7 +210,7 @@ fn spoiled_traces() {
                 bytes[place] ^= 1 << (change % 8);
                 let name = format!("{commits} commits, {keys} keys, trace {number}, byte {place}");
                 let outcome = outcome(&bytes);
-                let [code, _] = Call::ALL
+                let [code, ..] = Call::ALL
                     .map(|call| compare(&mut judge, call, &bytes, &outcome, call.long(), &name));
                 *codes.entry(code).or_default() += 1;
                 bytes[place] = kept;

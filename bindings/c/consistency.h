@@ -6,7 +6,7 @@
  * crates/consistency/src/lib.rt says what is proved of each call. docs/FORMAT.md has the trace file, the image, the replay and the
  * report, and the tables below in their long form: what to do about each code, and an example for each clause.
  *
- * All places that a call is lent stay the caller's, who has them to read (`file`) and to write (the others) for as many elements
+ * All places that a call is lent stay the caller's, who has them to read (`const`) and to write (the others) for as many elements
  * as the lengths say; they do not overlap, and none is null. A length may be 0, and any bytes may stand in a file. A file is never
  * written, and nothing is touched beyond what a call says that it writes. A call keeps nothing and allocates nothing: threads may
  * call at once, each with places of its own.
@@ -32,13 +32,13 @@ extern "C" {
 /* No report is longer. */
 #define CONSISTENCY_LONGEST_REPORT 1272
 
-/* Each call but `report_file` answers a code:
+/* Each call but `open_session` and those that write a report answers a code:
  *
  *     0            it has an answer, in the words that the call says;
  *     255          there is no room for the words of an answer: nothing was done, and nothing is written;
  *     any other    a refusal, by the table.
  *
- * A refusal is the same for all calls. Its words are written, and nothing else:
+ * A refusal is the same for all calls. Its words are written, if the call is lent words, and nothing else:
  *
  *     0       1         2         3         4
  *     code    record    key       version   0         0 where the code does not name it
@@ -61,16 +61,20 @@ extern "C" {
  *       14 | a view changed at a key without an operation                            | record, least key
  *       15 | the image buffer is shorter than the image                              |
  *       16 | SER does not accept the trace, so that it has no replay                 | record, key and version of SER's verdict
- *       17 | the file buffer is shorter than the file that is to be written          |
+ *       17 | the file buffer is shorter than the file, or than the pieces that came  |
+ *       18 | the session is closed                                                   |
  *
  * A call gives these and no others:
  *
- *     call        | codes
- *     ------------|---------------------------
- *     judge_file  | 1 to 14, then 15
- *     replay_file | 1 to 14, then 16, then 17
+ *     call          | codes
+ *     --------------|-------------------------------------
+ *     judge_file    | 1 to 14, then 15
+ *     replay_file   | 1 to 14, then 16, then 17
+ *     push_piece    | 18
+ *     close_session | 18, then 17, then 1 to 14, then 15
  *
- * Of several that are due the first is answered, in the order that docs/FORMAT.md gives. */
+ * More bytes than the longest file has are code 1 before 17. Of several that are due the first is answered, in the order that
+ * docs/FORMAT.md gives. */
 #define CONSISTENCY_NO_ROOM 255
 #define CONSISTENCY_REFUSAL_WORDS 5
 
@@ -158,6 +162,53 @@ size_t report_file(const uint8_t *file, size_t file_length,
                    uint8_t *text, size_t text_length);
 
 #define CONSISTENCY_REPORT_STACK 65536
+
+/* A trace file that comes in pieces, of any size and cut anywhere, empty ones too. The record stays with the caller, and each call changes it
+ * in place; the bytes are kept in a second place, `kept`, which is to have CONSISTENCY_LONGEST_FILE bytes and is lent with each call, the same
+ * one each time and not changed in between.
+ *
+ *     struct consistency_session session;
+ *     open_session(&session);
+ *     push_piece(&session, kept, sizeof kept, piece, piece_length);        for each piece
+ *     close_session(&session, kept, sizeof kept, image, sizeof image, words, CONSISTENCY_JUDGE_WORDS);
+ *
+ * A record that was opened and then changed by pieces alone is judged at its close as `judge_file` judges the joined bytes. Any two words
+ * are a record, and get an answer from every call. */
+struct consistency_session {
+    uint64_t total;  /* how many bytes have come; CONSISTENCY_LONGEST_FILE + 1 for all numbers above CONSISTENCY_LONGEST_FILE */
+    uint64_t closed; /* 0 where it is open, any other number where it is closed */
+};
+
+/* Makes the record a new one, whatever it was: open, and nothing has come. */
+void open_session(struct consistency_session *session);
+
+/* Takes the next bytes, and answers 0; where the session is closed, answers 18 and changes nothing. It takes as long as a copy
+ * of the piece, however much is kept.
+ *
+ * What comes after CONSISTENCY_LONGEST_FILE bytes is counted and not kept, and what does not fit into a shorter `kept` is not kept either; no
+ * byte of `kept` behind the first CONSISTENCY_LONGEST_FILE is ever written. */
+uint64_t push_piece(struct consistency_session *session,
+                    uint8_t *kept, size_t kept_length,
+                    const uint8_t *piece, size_t piece_length);
+
+/* Judges what has come and closes the session, whatever the answer: code, words and image are those of `judge_file`. Code 18, where it was
+ * closed before, changes neither session nor image; code 17 is that of a `kept` with fewer bytes than have come. Where `words` has less than
+ * CONSISTENCY_JUDGE_WORDS, the code is 255, and the session is as it was. */
+uint64_t close_session(struct consistency_session *session,
+                       const uint8_t *kept, size_t kept_length,
+                       uint8_t *image, size_t image_length,
+                       uint64_t *words, size_t words_length);
+
+/* The same with the report of `report_file` in place of the words. Where `text` has less than CONSISTENCY_LONGEST_REPORT bytes nothing is
+ * done, the session is as it was, and the answer is 0. */
+size_t report_session(struct consistency_session *session,
+                      const uint8_t *kept, size_t kept_length,
+                      uint8_t *image, size_t image_length,
+                      uint8_t *text, size_t text_length);
+
+/* For `open_session` and `push_piece`, and for `close_session` and `report_session`. */
+#define CONSISTENCY_PUSH_STACK 4096
+#define CONSISTENCY_CLOSE_STACK 65536
 
 #ifdef __cplusplus
 }

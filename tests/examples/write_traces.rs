@@ -16,8 +16,11 @@ fn main() -> std::io::Result<()> {
     fs::write(at("crates/vectors/args"), arguments())?;
     fs::write(at("crates/vectors/stdout"), printed())?;
     let b = encode(&trace_b());
-    fs::write(at("crates/judge/stdin"), &b)?;
-    fs::write(at("crates/judge/stdout"), report_of(&b))?;
+    for program in ["judge", "port"] {
+        fs::create_dir_all(at("crates").join(program))?;
+        fs::write(at(&format!("crates/{program}/stdin")), &b)?;
+        fs::write(at(&format!("crates/{program}/stdout")), report_of(&b))?;
+    }
     let e = encode(&trace_e());
     fs::write(at("crates/replay/stdin"), &e)?;
     fs::write(at("crates/replay/stdout"), replay_of(&e))

@@ -1,16 +1,19 @@
 //! The proved calls beside the model: the same answer to a file, the same
 //! words, and the same bytes in the lent buffer, whatever its length.
 
-use crate::buffer::pattern;
+use crate::buffer::{pattern, UNTOUCHED};
+use crate::generate::pieces;
+use crate::port::{Port, Record, CLOSED};
+use crate::random::Random;
 use crate::{answer, replayed, Answer, Call, Outcome, Replay, Verdict};
 use consistency::{
-    judge, judge_words, replay, replay_words, Key, Refusal, Verdicts, VersionNumber, JUDGE_WORDS,
-    REPLAY_WORDS,
+    close_session, judge, judge_words, open_session, push_piece, replay, replay_words,
+    report_session, Key, Refusal, Session, SessionRecord, Verdicts, VersionNumber, JUDGE_WORDS,
+    LONGEST_FILE, REPLAY_WORDS,
 };
 
 /// Words behind those of an answer, which must not be touched.
 const BEHIND: usize = 4;
-const UNTOUCHED: u64 = 0x5A5A_A5A5_5A5A_A5A5;
 
 /// A call with its answer as words: lent a file, a buffer and the words.
 pub type InWords = fn(&[u8], &mut [u8], &mut [u64]) -> u64;
@@ -20,7 +23,78 @@ pub fn in_words(call: Call) -> (InWords, usize) {
     match call {
         Call::Judge => (judge_words, JUDGE_WORDS),
         Call::Replay => (replay_words, REPLAY_WORDS),
+        Call::Port => (port_words, JUDGE_WORDS),
     }
+}
+
+/// A file in pieces to a session, cut otherwise for each length of the buffer.
+fn port_words(file: &[u8], image: &mut [u8], words: &mut [u64]) -> u64 {
+    let mut record = SessionRecord {
+        total: UNTOUCHED,
+        closed: UNTOUCHED,
+    };
+    let mut kept = pattern(LONGEST_FILE);
+    open_session(&mut record);
+    for piece in cut(file, image.len()) {
+        assert_eq!(push_piece(&mut record, &mut kept, piece), 0);
+    }
+    close_session(&mut record, &kept, image, words)
+}
+
+/// The same by the type that keeps the bytes itself; a second close is refused,
+/// and changes nothing.
+fn port(file: &[u8], image: &mut [u8]) -> consistency::Answer {
+    let mut session = Session::open();
+    for piece in cut(file, image.len() + 1) {
+        session.push(piece).expect("it is open");
+    }
+    let answer = session.close(image);
+    let closed = told_refusal(&crate::Refusal::at(CLOSED, 0));
+    assert_eq!(session.push(file), Err(closed));
+    assert_eq!(session.close(image), consistency::Answer::Refused(closed));
+    answer
+}
+
+/// The pieces of a file, which vary with a number.
+fn cut(file: &[u8], number: usize) -> Vec<&[u8]> {
+    let random = &mut Random::seeded((file.len() << 20 | number) as u64);
+    let most = random.pick(&[1, 7, 64, 4096, 2 * LONGEST_FILE]);
+    pieces(random, file, most)
+}
+
+/// The calls of a session as they were built.
+pub struct Proved;
+
+impl Port for Proved {
+    fn open(&self, record: &mut Record) {
+        by_session(record, open_session)
+    }
+
+    fn push(&self, record: &mut Record, kept: &mut [u8], piece: &[u8]) -> u64 {
+        by_session(record, |session| push_piece(session, kept, piece))
+    }
+
+    fn close(&self, record: &mut Record, kept: &[u8], image: &mut [u8], words: &mut [u64]) -> u64 {
+        by_session(record, |session| close_session(session, kept, image, words))
+    }
+
+    fn report(&self, record: &mut Record, kept: &[u8], image: &mut [u8], text: &mut [u8]) -> usize {
+        by_session(record, |session| report_session(session, kept, image, text))
+    }
+}
+
+/// A call on a record of the model.
+fn by_session<A>(record: &mut Record, call: impl FnOnce(&mut SessionRecord) -> A) -> A {
+    let mut session = SessionRecord {
+        total: record.total,
+        closed: record.closed,
+    };
+    let answer = call(&mut session);
+    *record = Record {
+        total: session.total,
+        closed: session.closed,
+    };
+    answer
 }
 
 /// Holds a call's answer for a file and a buffer of this length to what the
@@ -50,6 +124,10 @@ pub fn compare(call: Call, name: &str, file: &[u8], outcome: &Outcome, length: u
         Call::Replay => {
             let due = replayed(outcome, &mut pattern(length));
             assert_eq!(replay(file, &mut bytes), told_replay(&due), "{name}");
+        }
+        Call::Port => {
+            let due = answer(outcome, &mut pattern(length));
+            assert_eq!(port(file, &mut bytes), told_answer(&due), "{name}");
         }
     }
     assert!(bytes == due_bytes, "{name}: other bytes");

@@ -8,6 +8,9 @@ pub const LONG: usize = image::LONGEST + 40;
 /// More than any replay needs.
 pub const LONG_FILE: usize = replay::LONGEST + 40;
 
+/// What words have in them.
+pub const UNTOUCHED: u64 = 0x5A5A_A5A5_5A5A_A5A5;
+
 /// What a buffer has in it: at places side by side, other bytes, which come
 /// again after 256 places.
 pub fn pattern(length: usize) -> Vec<u8> {

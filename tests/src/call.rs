@@ -1,5 +1,6 @@
 //! The calls side by side. Each is lent a trace file and one buffer, and either
-//! refuses or writes something to the start of the buffer.
+//! refuses or writes something to the start of the buffer. The calls of a session
+//! are one here: it is opened, all pieces are pushed, it is closed.
 
 use crate::buffer::{LONG, LONG_FILE};
 use crate::words::{judge_words, replay_words};
@@ -11,15 +12,18 @@ pub enum Call {
     Judge,
     /// The replay.
     Replay,
+    /// Ten verdicts, and the image, of a file that comes in pieces.
+    Port,
 }
 
 impl Call {
-    pub const ALL: [Call; 2] = [Call::Judge, Call::Replay];
+    pub const ALL: [Call; 3] = [Call::Judge, Call::Replay, Call::Port];
 
     pub fn name(self) -> &'static str {
         match self {
             Call::Judge => "judge",
             Call::Replay => "replay",
+            Call::Port => "port",
         }
     }
 
@@ -28,7 +32,7 @@ impl Call {
     /// one of a buffer that is too short.
     pub fn own_codes(self) -> &'static [u8] {
         match self {
-            Call::Judge => &[15],
+            Call::Judge | Call::Port => &[15],
             Call::Replay => &[16, 17],
         }
     }
@@ -36,7 +40,7 @@ impl Call {
     /// No buffer need be longer.
     pub fn longest(self) -> usize {
         match self {
-            Call::Judge => image::LONGEST,
+            Call::Judge | Call::Port => image::LONGEST,
             Call::Replay => replay::LONGEST,
         }
     }
@@ -44,7 +48,7 @@ impl Call {
     /// More than any file needs.
     pub fn long(self) -> usize {
         match self {
-            Call::Judge => LONG,
+            Call::Judge | Call::Port => LONG,
             Call::Replay => LONG_FILE,
         }
     }
@@ -54,7 +58,7 @@ impl Call {
     pub fn written(self, outcome: &Outcome) -> Option<&[u8]> {
         let taken = outcome.as_ref().ok()?;
         match self {
-            Call::Judge => Some(&taken.image),
+            Call::Judge | Call::Port => Some(&taken.image),
             Call::Replay => taken.replay.as_deref().ok(),
         }
     }
@@ -63,7 +67,7 @@ impl Call {
     /// as the call leaves it.
     pub fn words(self, outcome: &Outcome, buffer: &mut [u8]) -> Vec<u64> {
         match self {
-            Call::Judge => judge_words(&answer(outcome, buffer)),
+            Call::Judge | Call::Port => judge_words(&answer(outcome, buffer)),
             Call::Replay => replay_words(&replayed(outcome, buffer)),
         }
     }

@@ -4,11 +4,13 @@
 //! from how it was made and not by judging it.
 
 pub mod mangled;
+pub mod pieces;
 pub mod planted;
 pub mod session;
 pub mod taken;
 
 pub use mangled::{mangled, record_places};
+pub use pieces::{pieces, script, Script};
 pub use planted::{competing, planted};
 pub use session::build_session;
 pub use taken::{

@@ -4,8 +4,9 @@
 //! for: one trace file in a lent slice, one store image into a second lent
 //! slice, and either ten verdicts or one refusal (section "Bench codes"); and
 //! the call of request E1, which writes the replay of a trace into a lent file
-//! buffer. Everything is sets, maps and lists, as near to the wording of the
-//! paper as it goes. It is slow on purpose: it is there to be compared with.
+//! buffer; and the calls of request E5, by which a trace file comes in pieces.
+//! Everything is sets, maps and lists, as near to the wording of the paper as it
+//! goes. It is slow on purpose: it is there to be compared with.
 
 #[cfg(feature = "proved")]
 pub mod beside;
@@ -21,6 +22,7 @@ pub mod image;
 pub mod levels;
 pub mod met;
 pub mod own_writes;
+pub mod port;
 #[cfg(feature = "proved")]
 pub mod programs;
 pub mod random;
@@ -56,7 +58,7 @@ impl Answer {
     }
 }
 
-/// One code from 1 to 17 with what it names; 0 where it names nothing.
+/// One code from 1 to 18 with what it names; 0 where it names nothing.
 #[derive(Clone, Copy, PartialEq, Eq, PartialOrd, Ord, Debug)]
 pub struct Refusal {
     pub code: u8,

@@ -322,3 +322,16 @@ pub fn possible_combinations() -> BTreeSet<String> {
     }
     combinations
 }
+
+/// Prints in how many files each slip is noticed; fails if one is in none.
+pub fn all_noticed(slips: &[(&str, usize)]) {
+    for (name, noticed) in slips {
+        println!("{name}: noticed in {noticed}");
+    }
+    let unnoticed: Vec<&str> = slips
+        .iter()
+        .filter(|slip| slip.1 == 0)
+        .map(|slip| slip.0)
+        .collect();
+    assert!(unnoticed.is_empty(), "{unnoticed:?}");
+}

@@ -23,11 +23,11 @@ pub fn program(call: Call) -> PathBuf {
 }
 
 /// What the program of a call has to say of a file that comes to this: `judge`
-/// prints a report, `replay` writes a file or tells a refusal.
+/// and `port` print a report, `replay` writes a file or tells a refusal.
 pub fn due(call: Call, outcome: &Outcome) -> Said {
     let mut buffer = vec![0; call.longest()];
     match call {
-        Call::Judge => {
+        Call::Judge | Call::Port => {
             let text = report(&answer(outcome, &mut buffer));
             (text.into_bytes(), String::new())
         }

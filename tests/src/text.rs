@@ -4,6 +4,10 @@
 use crate::levels::LEVELS;
 use crate::{Answer, Refusal, Verdict};
 
+/// No text is longer: ten levels refuse, and each number has twenty digits. A
+/// call that has less room for it does nothing.
+pub const LONGEST: usize = 1_272;
+
 /// The line of a refusal.
 pub fn refused(refusal: &Refusal) -> String {
     format!(

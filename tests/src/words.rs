@@ -1,6 +1,13 @@
 //! Answers as words: `crates/words/specs/Layout.antt`.
 
+use crate::levels::LEVELS;
 use crate::{Answer, Refusal, Replay, Verdict};
+
+/// The words of a judged trace, and the room that a call wants for its answer.
+pub const JUDGE: usize = 4 + 4 * LEVELS.len();
+
+/// The code of a call that has less room, and does nothing.
+pub const NO_ROOM: u64 = 255;
 
 pub fn judge_words(answer: &Answer) -> Vec<u64> {
     match *answer {

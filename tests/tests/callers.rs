@@ -6,6 +6,7 @@
 use model::files::{at, files, report_of};
 use model::generate::{exactly_full, file, largest, largest_serial};
 use model::levels::{place_of, LEVELS};
+use model::port::CLOSED;
 use model::programs::{printed, run, Said};
 use model::random::Random;
 use model::store::Store;
@@ -31,7 +32,7 @@ fn keeps_si(file: &[u8]) -> Said {
     (text.into_bytes(), String::new())
 }
 
-/// What `print_report` must print.
+/// What `print_report` and `report_pieces` must print.
 fn print_report(file: &[u8]) -> Said {
     (report_of(file).into_bytes(), String::new())
 }
@@ -147,12 +148,14 @@ fn what_the_examples_must_say() {
 fn from_rust() {
     succeeds(
         Command::new(env!("CARGO"))
-            .args(["build", "--offline", "--quiet", "--example", "keeps_si"])
+            .args(["build", "--offline", "--quiet", "--examples"])
             .arg("--target-dir")
             .arg(room().join("rust"))
             .current_dir(at("bindings/rust")),
     );
-    check(&room().join("rust/debug/examples/keeps_si"), keeps_si);
+    for name in ["keeps_si", "keeps_si_in_pieces"] {
+        check(&room().join("rust/debug/examples").join(name), keeps_si);
+    }
 }
 
 #[test]
@@ -162,6 +165,8 @@ fn from_c() {
     check(&program, keeps_si);
     let program = compiled("write_replay", words, "bindings/c/write_replay.c");
     check(&program, write_replay);
+    let program = compiled("report_pieces", words, "bindings/c/report_pieces.c");
+    check(&program, print_report);
 }
 
 /// The examples in C are examples in C++ too.
@@ -172,6 +177,8 @@ fn from_cpp() {
     check(&program, keeps_si);
     let program = compiled("write_replay_cpp", words, "bindings/c/write_replay.c");
     check(&program, write_replay);
+    let program = compiled("report_pieces_cpp", words, "bindings/c/report_pieces.c");
+    check(&program, print_report);
     let program = compiled("print_report", words, "bindings/c/print_report.cc");
     check(&program, print_report);
 }
@@ -209,8 +216,11 @@ fn the_numbers_of_the_header() {
     let header = text("bindings/c/consistency.h");
     let has = |line: String| assert!(header.contains(&line), "{line}");
     let longest = [consistency::LONGEST_IMAGE, consistency::LONGEST_REPLAY];
-    assert_eq!(longest, Call::ALL.map(Call::longest));
+    assert_eq!(longest, [Call::Judge, Call::Replay].map(Call::longest));
     assert_eq!(consistency::LONGEST_FILE, Store::MAX_BYTES);
+    assert_eq!(consistency::LONGEST_REPORT, model::text::LONGEST);
+    assert_eq!(consistency::JUDGE_WORDS, model::words::JUDGE);
+    assert_eq!(consistency::NO_ROOM, model::words::NO_ROOM);
     let defines = |name: &str, number: usize| {
         has(format!("#define CONSISTENCY_{name} {number}\n"));
     };
@@ -225,6 +235,8 @@ fn the_numbers_of_the_header() {
     defines("REPLAY_WORDS", consistency::REPLAY_WORDS);
     defines("REPLAY_STACK", consistency::REPLAY_STACK);
     defines("REPORT_STACK", consistency::REPORT_STACK);
+    defines("PUSH_STACK", consistency::PUSH_STACK);
+    defines("CLOSE_STACK", consistency::CLOSE_STACK);
     let places: Vec<String> = (0..LEVELS.len())
         .map(|place| format!("    CONSISTENCY_{} = {}", LEVELS[place].name, 4 + 4 * place))
         .collect();
@@ -267,7 +279,8 @@ fn the_table_of_codes() {
         &["code", "refused since", "names"],
     );
     let long = table("docs/FORMAT.md", &["code", "when", "names", "what to do"]);
-    assert_eq!(long[0][..2], ["0", "judged, or the replay is written"]);
+    let answered = "judged, or the replay is written, or the piece is taken";
+    assert_eq!(long[0][..2], ["0", answered]);
     assert_eq!(codes.len(), long.len() - 1);
     for (code, long) in codes.iter().zip(&long[1..]) {
         assert_eq!([&code[0], &code[2]], [&long[0], &long[2]]);
@@ -278,20 +291,34 @@ fn the_table_of_codes() {
 #[test]
 fn the_table_of_calls() {
     let head = ["call", "codes"];
-    let due = |name: fn(&str) -> String| -> Vec<Vec<String>> {
-        let row = |call: Call| {
-            let own = call.own_codes().iter();
-            let own: String = own.map(|code| format!(", then {code}")).collect();
-            vec![name(call.name()), format!("1 to 14{own}")]
-        };
-        Call::ALL.map(row).to_vec()
+    let of_files = |call: Call| -> String {
+        let own = call.own_codes().iter();
+        let own: String = own.map(|code| format!(", then {code}")).collect();
+        format!("1 to 14{own}")
     };
-    let header = due(|name| format!("{name}_file"));
+    let codes = [
+        of_files(Call::Judge),
+        of_files(Call::Replay),
+        CLOSED.to_string(),
+        format!("{CLOSED}, then 17, then {}", of_files(Call::Port)),
+    ];
+    let due = |names: [String; 4]| -> Vec<Vec<String>> {
+        let rows = names.into_iter().zip(codes.clone());
+        rows.map(|(name, codes)| vec![name, codes]).collect()
+    };
+    let functions = ["judge_file", "replay_file", "push_piece", "close_session"];
+    let header = due(functions.map(str::to_string));
     assert_eq!(table("bindings/c/consistency.h", &head), header);
-    let rust = due(|name| format!("[`{name}`](crate::{name})"));
-    assert_eq!(table("bindings/rust/src/refusal.rs", &head), rust);
-    let format = due(|name| format!("`{name}_file`"));
+    let format = due(functions.map(|name| format!("`{name}`")));
     assert_eq!(table("docs/FORMAT.md", &head), format);
+    let of_the_crate = functions.map(|name| {
+        let name = name.trim_end_matches("_file");
+        format!("[`{name}`](crate::{name})")
+    });
+    assert_eq!(
+        table("bindings/rust/src/refusal.rs", &head),
+        due(of_the_crate)
+    );
 }
 
 #[test]
@@ -347,6 +374,10 @@ fn the_stack_of_each_call() {
         ("judge_file", consistency::JUDGE_STACK),
         ("replay_file", consistency::REPLAY_STACK),
         ("report_file", consistency::REPORT_STACK),
+        ("open_session", consistency::PUSH_STACK),
+        ("push_piece", consistency::PUSH_STACK),
+        ("close_session", consistency::CLOSE_STACK),
+        ("report_session", consistency::CLOSE_STACK),
     ] {
         let said = printed(Command::new(&program).arg(call), &input);
         let taken: usize = said.trim().parse().expect("a number");
@@ -383,5 +414,17 @@ fn the_stack_of_each_call_in_rust() {
     });
     on_a_thread(consistency::REPORT_STACK, |file, image, text| {
         consistency::report(file, image, text);
+    });
+    on_a_thread(consistency::PUSH_STACK, |file, _, _| {
+        let mut session = consistency::Session::open();
+        session.push(file).expect("it is open");
+    });
+    on_a_thread(consistency::CLOSE_STACK, |file, image, text| {
+        let mut session = consistency::Session::open();
+        session.push(file).expect("it is open");
+        session.close(image);
+        session.reopen();
+        session.push(file).expect("it is open again");
+        session.report(image, text);
     });
 }

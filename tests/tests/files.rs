@@ -53,8 +53,12 @@ fn every_trace_has_a_line_in_the_readme() {
 #[test]
 fn what_the_programs_read_and_print() {
     let b = encode(&trace_b());
-    assert_eq!(kept("crates/judge/stdin"), b);
-    assert_eq!(kept("crates/judge/stdout"), report_of(&b).as_bytes());
+    for program in ["judge", "port"] {
+        let [stdin, stdout] =
+            ["stdin", "stdout"].map(|name| kept(&format!("crates/{program}/{name}")));
+        assert_eq!(stdin, b);
+        assert_eq!(stdout, report_of(&b).as_bytes());
+    }
     let e = encode(&trace_e());
     assert_eq!(kept("crates/replay/stdin"), e);
     assert_eq!(kept("crates/replay/stdout"), replay_of(&e));
@@ -105,7 +109,9 @@ fn the_limits_of_the_formats() {
     let (commits, versions) = (Store::MAX_COMMITS, Store::MAX_COMMITS + 1);
     let operations = Store::MAX_OPERATIONS;
     let [least, most] = [Store::MIN_BYTES, Store::MAX_BYTES].map(in_thousands);
-    let [image, replay] = Call::ALL.map(|call| in_thousands(call.longest()));
+    let too_many = in_thousands(Store::MAX_BYTES + 1);
+    let longest = |call: Call| in_thousands(call.longest());
+    let [image, replay] = [Call::Judge, Call::Replay].map(longest);
     let longest = format!("{commits} commits of {operations} operations over {keys} keys");
     let formats = formats();
     for due in [
@@ -118,6 +124,8 @@ fn the_limits_of_the_formats() {
         format!("the longest image has {image} bytes"),
         format!("the longest replay has {replay} bytes"),
         format!("The longest has {replay}: {longest}."),
+        format!("| how many bytes came; {too_many} stands for every number above {most} |\n"),
+        format!("Where more than {most} bytes came in pieces,"),
     ] {
         assert_eq!(formats.matches(&due).count(), 1, "{due}");
     }

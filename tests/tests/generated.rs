@@ -177,7 +177,7 @@ fn buffers(seed: u64, call: Call, outcome: &Outcome) -> Vec<(usize, u8)> {
         return vec![(0, code), (call.long(), code)];
     }
     let short = match call {
-        Call::Judge => 15,
+        Call::Judge | Call::Port => 15,
         Call::Replay => 17,
     };
     let needed = call.written(outcome).expect("it is written").len();

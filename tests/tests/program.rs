@@ -1,6 +1,7 @@
 //! The programs, as `rt check` builds them: what each has to say of the bytes on
-//! its standard input is the model's. `judge` prints the report; `replay` writes
-//! the replay, or tells the refusal on standard error and writes nothing.
+//! its standard input is the model's. `judge` and `port` print the report;
+//! `replay` writes the replay, or tells the refusal on standard error and writes
+//! nothing.
 
 use model::example_traces::{trace_b, trace_e};
 use model::files::files;
@@ -20,7 +21,7 @@ fn says(call: Call, input: &[u8], at_a_time: usize) -> Said {
     said(run(&mut Command::new(program(call)), input, at_a_time))
 }
 
-/// Both programs on one file.
+/// All programs on one file.
 fn check(name: &str, file: &[u8], outcome: &Outcome) {
     for call in Call::ALL {
         let due = due(call, outcome);

@@ -10,6 +10,7 @@ use model::generate::{file, taken_case, FORMER_KEYS};
 use model::levels::{
     least_missing, missing, missing_before, place_of, session_of, verdicts, verdicts_by, Clauses,
 };
+use model::met::all_noticed;
 use model::own_writes::{former_clauses, lacked};
 use model::random::Random;
 use model::relations::{
@@ -31,19 +32,6 @@ fn traces(number: u64) -> Vec<(Trace, Run)> {
         .map(|seed| taken(&taken_case(&mut Random::seeded(seed)).bytes).expect("taken"))
         .filter(|(_, run)| run.steps.len() <= 16)
         .collect()
-}
-
-/// Prints in how many traces each slip is noticed; fails if one is in none.
-fn all_noticed(slips: &[(&str, usize)]) {
-    for (name, noticed) in slips {
-        println!("{name}: noticed in {noticed}");
-    }
-    let unnoticed: Vec<&str> = slips
-        .iter()
-        .filter(|slip| slip.1 == 0)
-        .map(|slip| slip.0)
-        .collect();
-    assert!(unnoticed.is_empty(), "{unnoticed:?}");
 }
 
 type Missing = Option<(Key, Version)>;

@@ -2,8 +2,10 @@
 //! failure gets a line on standard error, and nothing is written.
 
 use model::example_traces::trace_e;
-use model::files::at;
+use model::files::{at, files};
+use model::generate::{exactly_full, pieces};
 use model::programs::{due, program, said, Said};
+use model::random::Random;
 use model::trace::encode;
 use model::{outcome, Call};
 use std::fs::{self, File, OpenOptions};
@@ -89,6 +91,7 @@ fn an_empty_input() {
     let line = "refused 1 record 0 key 0 version 0";
     let printed = (format!("{line}\n").into_bytes(), String::new());
     assert_eq!(redirected(Call::Judge, "< /dev/null"), printed);
+    assert_eq!(redirected(Call::Port, "< /dev/null"), printed);
     assert_eq!(redirected(Call::Replay, "< /dev/null"), told(line));
 }
 
@@ -178,6 +181,31 @@ fn a_late_writer() {
         let mut child = start(call, Stdio::piped(), Stdio::piped());
         late(child.stdin.take().expect("it is piped"));
         assert_eq!(ended(child), whole(call));
+    }
+}
+
+/// The same pieces, with pauses between them, to both programs that print a
+/// report: they print the same one, whatever it is. No input has more bytes than
+/// show that it is too long.
+#[test]
+fn pieces_with_pauses() {
+    let full = encode(&exactly_full(&mut Random::seeded(3)).trace);
+    let mut long = full.clone();
+    long.push(0);
+    let inputs = files().into_iter().map(|(_, example)| example.bytes);
+    for (seed, input) in inputs.chain([full, long]).enumerate() {
+        let due = due(Call::Judge, &outcome(&input));
+        for call in [Call::Judge, Call::Port] {
+            let random = &mut Random::seeded(seed as u64);
+            let mut child = start(call, Stdio::piped(), Stdio::piped());
+            let mut to = child.stdin.take().expect("it is piped");
+            for piece in pieces(random, &input, 1 + input.len() / 4) {
+                to.write_all(piece).expect("the input is written");
+                sleep(Duration::from_millis(5));
+            }
+            drop(to);
+            assert_eq!(ended(child), due, "input {seed}, {}", call.name());
+        }
     }
 }
 

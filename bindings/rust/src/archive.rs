@@ -1,5 +1,7 @@
 //! The functions of `libconsistency.a`, as `bindings/c/consistency.h` has them.
 
+use crate::session::SessionRecord;
+
 extern "C" {
     pub fn judge_file(
         file: *const u8,
@@ -22,6 +24,36 @@ extern "C" {
     pub fn report_file(
         file: *const u8,
         file_length: usize,
+        image: *mut u8,
+        image_length: usize,
+        text: *mut u8,
+        text_length: usize,
+    ) -> usize;
+
+    pub fn open_session(session: *mut SessionRecord);
+
+    pub fn push_piece(
+        session: *mut SessionRecord,
+        kept: *mut u8,
+        kept_length: usize,
+        piece: *const u8,
+        piece_length: usize,
+    ) -> u64;
+
+    pub fn close_session(
+        session: *mut SessionRecord,
+        kept: *const u8,
+        kept_length: usize,
+        image: *mut u8,
+        image_length: usize,
+        words: *mut u64,
+        words_length: usize,
+    ) -> u64;
+
+    pub fn report_session(
+        session: *mut SessionRecord,
+        kept: *const u8,
+        kept_length: usize,
         image: *mut u8,
         image_length: usize,
         text: *mut u8,

@@ -89,26 +89,34 @@ pub const JUDGE_STACK: usize = 65_536;
 /// where the file is refused.
 pub fn judge(file: &[u8], image: &mut [u8]) -> Answer {
     let mut words = [0; JUDGE_WORDS];
-    if judge_words(file, image, &mut words) != 0 {
-        return Answer::Refused(Refusal::of(&words));
-    }
-    let verdict = |level: usize| verdict_of(&words[4 + 4 * level..8 + 4 * level]);
-    Answer::Judged {
-        verdicts: Verdicts {
-            mr: verdict(0),
-            mw: verdict(1),
-            ryw: verdict(2),
-            wfr: verdict(3),
-            cc: verdict(4),
-            ua: verdict(5),
-            psi: verdict(6),
-            cp: verdict(7),
-            si: verdict(8),
-            ser: verdict(9),
-        },
-        records: words[1] as usize,
-        commits: words[2] as usize,
-        image_length: words[3] as usize,
+    judge_words(file, image, &mut words);
+    Answer::of(&words)
+}
+
+impl Answer {
+    /// The answer whose words a call has left.
+    pub(crate) fn of(words: &[u64; JUDGE_WORDS]) -> Answer {
+        if words[0] != 0 {
+            return Answer::Refused(Refusal::of(words));
+        }
+        let verdict = |level: usize| verdict_of(&words[4 + 4 * level..8 + 4 * level]);
+        Answer::Judged {
+            verdicts: Verdicts {
+                mr: verdict(0),
+                mw: verdict(1),
+                ryw: verdict(2),
+                wfr: verdict(3),
+                cc: verdict(4),
+                ua: verdict(5),
+                psi: verdict(6),
+                cp: verdict(7),
+                si: verdict(8),
+                ser: verdict(9),
+            },
+            records: words[1] as usize,
+            commits: words[2] as usize,
+            image_length: words[3] as usize,
+        }
     }
 }
 

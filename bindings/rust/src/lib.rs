@@ -6,6 +6,9 @@
 //! and allocates nothing, so that several threads may call at once. It takes no
 //! more stack than its constant says; the buffers are the caller's.
 //!
+//! A file is given whole, or in pieces to a [`Session`], which has a buffer of
+//! its own for them.
+//!
 //! [`Refusal`] has the table of codes and that of the calls which give them,
 //! [`Verdicts`] that of levels and [`Verdict`] that of clauses.
 //! `docs/FORMAT.md` has the trace file, the image, the replay and the report,
@@ -16,11 +19,16 @@ mod judging;
 mod refusal;
 mod replaying;
 mod report;
+mod session;
 
 pub use judging::{judge, judge_words, Answer, Verdict, Verdicts, JUDGE_STACK, JUDGE_WORDS};
 pub use refusal::{Key, Refusal, VersionNumber, NO_ROOM, REFUSAL_WORDS};
 pub use replaying::{replay, replay_words, Replay, LONGEST_REPLAY, REPLAY_STACK, REPLAY_WORDS};
 pub use report::{report, LONGEST_REPORT, REPORT_STACK};
+pub use session::{
+    close_session, open_session, push_piece, report_session, Session, SessionRecord, CLOSE_STACK,
+    PUSH_STACK,
+};
 
 /// The most bytes that a trace file may have; a longer one is code 1.
 pub const LONGEST_FILE: usize = 65_536;

@@ -30,7 +30,8 @@ pub struct VersionNumber(pub usize);
 /// | 14 | a view changed at a key without an operation | record, least key |
 /// | 15 | the image buffer is shorter than the image | |
 /// | 16 | SER does not accept the trace, so that it has no replay | record, key and version of SER's verdict |
-/// | 17 | the file buffer is shorter than the file that is to be written | |
+/// | 17 | the file buffer is shorter than the file, or than the pieces that came | |
+/// | 18 | the session is closed | |
 ///
 /// A call gives these and no others:
 ///
@@ -38,9 +39,12 @@ pub struct VersionNumber(pub usize);
 /// |---|---|
 /// | [`judge`](crate::judge) | 1 to 14, then 15 |
 /// | [`replay`](crate::replay) | 1 to 14, then 16, then 17 |
+/// | [`push_piece`](crate::push_piece) | 18 |
+/// | [`close_session`](crate::close_session) | 18, then 17, then 1 to 14, then 15 |
 ///
-/// Of several that are due the first is answered, in the order that
-/// `docs/FORMAT.md` gives; there it also stands what to do about each.
+/// More bytes than the longest file has are code 1 before 17. Of several that
+/// are due the first is answered, in the order that `docs/FORMAT.md` gives; there
+/// it also stands what to do about each.
 #[derive(Clone, Copy, PartialEq, Eq, Debug)]
 pub struct Refusal {
     pub code: u8,

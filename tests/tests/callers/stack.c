@@ -15,7 +15,8 @@
 
 static _Alignas(4096) volatile uint64_t stack[STACK_WORDS];
 static uint8_t file[CONSISTENCY_LONGEST_FILE + 1024], buffer[CONSISTENCY_LONGEST_IMAGE + CONSISTENCY_LONGEST_REPLAY];
-static uint8_t text[CONSISTENCY_LONGEST_REPORT];
+static uint8_t kept[CONSISTENCY_LONGEST_FILE], text[CONSISTENCY_LONGEST_REPORT];
+static struct consistency_session session;
 static uint64_t words[CONSISTENCY_JUDGE_WORDS];
 static size_t file_length, buffer_length;
 static const char *start;
@@ -38,10 +39,39 @@ static void *report(void *nothing) {
     return nothing;
 }
 
+/* The record is one that is there, so that a call needs no other before it. */
+static void *open_one(void *nothing) {
+    start = __builtin_frame_address(0);
+    open_session(&session);
+    return nothing;
+}
+
+static void *push(void *nothing) {
+    session.total = session.closed = 0;
+    start = __builtin_frame_address(0);
+    push_piece(&session, kept, buffer_length ? sizeof kept : 0, file, file_length);
+    return nothing;
+}
+
+static void *close_one(void *nothing) {
+    session.total = file_length, session.closed = 0;
+    start = __builtin_frame_address(0);
+    close_session(&session, file, sizeof file, buffer, buffer_length, words, CONSISTENCY_JUDGE_WORDS);
+    return nothing;
+}
+
+static void *report_one(void *nothing) {
+    session.total = file_length, session.closed = 0;
+    start = __builtin_frame_address(0);
+    report_session(&session, file, sizeof file, buffer, buffer_length, text, sizeof text);
+    return nothing;
+}
+
 static const struct {
     const char *name;
     void *(*make)(void *);
-} calls[] = {{"judge_file", judge}, {"replay_file", replay}, {"report_file", report}};
+} calls[] = {{"judge_file", judge}, {"replay_file", replay}, {"report_file", report}, {"open_session", open_one},
+             {"push_piece", push}, {"close_session", close_one}, {"report_session", report_one}};
 
 static void must(int holds, const char *what) {
     if (holds) return;
