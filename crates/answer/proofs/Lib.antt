@@ -11,3 +11,4 @@ pub mod ReplayFile
 pub mod Demand3
 pub mod EarlierRule
 pub mod Written
+pub mod Converted

@@ -12,7 +12,9 @@ use Rattle.store.specs.Update.{step, viewBefore}
 use Rattle.store.specs.Refusal.{refusesEvent}
 use Rattle.store.specs.Sound.{Sound}
 use Rattle.growth.specs.Ordered.{Ordered}
-use Rattle.trace.specs.Format.{viewAt, operationsAt}
+use Rattle.trace.specs.Entry.{commitMeant}
+use Rattle.trace.specs.Format.{operationsAt}
+use Rattle.trace.specs.Meaning.{listingOf}
 use Rattle.trace.specs.WellFormed.{FitsCommit}
 use Rattle.state.specs.Keeps.{KeepsMasks, KeepsOperations, Keeps}
 use Rattle.shifts.specs.Outcomes.{outcomeOf}
@@ -28,14 +30,9 @@ use Rattle.commits.specs.declared.record.Begun.{Begun}
 abbrev pub ValuesFit : List ℕ → Type 0
 ValuesFit values = (r : ℕ) → getD values r 0 < 2 ^ 32
 
--- the commit whose parts stand at these places of a file
-abbrev pub commitIn : List ℕ → CommitAt → ℕ → Commit
-commitIn file at n = record {
-  client = at .client;
-  session = at .session;
-  operations = operationsAt file (at .operations) (at .count);
-  viewAfter = viewAt file (at .masks) n;
-}
+-- the commit that is meant by a record whose parts stand at these places of a file
+abbrev pub commitIn : Configuration → List ℕ → CommitAt → ℕ → Commit
+commitIn g file at n = commitMeant g (at .client) (at .session) (operationsAt file (at .operations) (at .count)) (listingOf file n (at .listing))
 
 -- a commit on a configuration that the arrays keep
 pub record Recorded (g : Configuration) (c : Commit) (clients n : ℕ) (versions keys views seen sessions commits links : List ℕ) : Type 0 where

@@ -3,27 +3,26 @@ use crate::early::early;
 use crate::late::late;
 use shifts::Outcome;
 use state::CommitNumber;
+use trace::records::Listing;
 ghost use Prim.Native.Nat.{ℕ, _+_, _*_, _≤_, _<_};
 ghost use mathlib.Core.Path.{_≡_};
-ghost use mathlib.Core.Bool.{true};
 ghost use mathlib.Core.Option.{Option};
 ghost use mathlib.Core.List.{List};
-ghost use lib.ListN.{length};
 ghost use Rattle.store.specs.Limits.{maxKeys, maxClients, numbers};
 ghost use Rattle.store.specs.Store.{Configuration, Commit, nextNumber, commit};
-ghost use Rattle.trace.specs.Format.{operationsFit};
+ghost use Rattle.trace.specs.Meaning.{OperationsFit, ListingFits};
 ghost use Rattle.levels.specs.Level.{Level, Failure};
 ghost use Rattle.state.specs.Room.{VersionsRoom, ViewsRoom, SessionsRoom, FreshRoom, ValuesRoom, Room};
 ghost use Rattle.verdicts.specs.Verdicts.{VerdictsRoom, KeepsVerdicts};
 ghost use Rattle.commits.specs.Records.{ValuesFit, commitIn, Recorded, BegunAs, Ready, EventDone};
 
-// Where the parts of a commit stand in the file.
+// Where the parts of a commit stand in the file, and what it lists of its view after.
 pub struct CommitAt {
     pub client: usize,
     pub count: usize,
     pub session: u32,
     pub operations: usize,
-    pub masks: usize,
+    pub listing: Listing,
 }
 
 // What is known before the commit is made: whether it is refused then, and the ranks of its operations.
@@ -44,22 +43,31 @@ fn begin(
     fresh: &mut [u64],
     n: usize,
 ) -> Begun
-    requires { ⌜ (n ≤ maxKeys) × (at .client < maxClients) × (at .masks + 8 * n ≤ length (now file)) × (at .operations + 8 * at .count ≤ length (now file)) × (operationsFit (now file) (at .operations) n 0 (at .count) ≡ true) ⌝ }
+    requires { ⌜ (n ≤ maxKeys) × (at .client < maxClients) × ListingFits (now file) n (at .listing) × OperationsFit (now file) n (at .operations) (at .count) ⌝ }
     requires { ⌜ VersionsRoom (now versions) × ViewsRoom (now views) × SessionsRoom (now sessions) × ValuesRoom (now values) × FreshRoom (now fresh) ⌝ }
     ensures { λ r. ⌜
         ((g : Configuration) (clients : ℕ) (keys seen commits links : List ℕ)
-        → Recorded g (commitIn (now (file .entry)) at n) clients n (now (versions .entry)) keys (now (views .entry)) seen (now (sessions .entry)) commits links
+        → Recorded g (commitIn g (now (file .entry)) at n) clients n (now (versions .entry)) keys (now (views .entry)) seen (now (sessions .entry)) commits links
         → ValuesFit (now (values .entry))
-        → BegunAs number g (commitIn (now (file .entry)) at n) n (now (values .exit)) (now (fresh .exit)) r)
+        → BegunAs number g (commitIn g (now (file .entry)) at n) n (now (values .exit)) (now (fresh .exit)) r)
         ⌝ }
 {
     let client = at.client;
     let session = at.session;
-    let masks = at.masks;
+    let listing = at.listing;
     let operations = at.operations;
     let count = at.count;
-    trace::contents::masks_into(file, masks, fresh, n);
-    let ranks = trace::contents::sort_operations(file, operations, count, values);
+    let ranks = trace::contents::commit_into(
+        file,
+        operations,
+        count,
+        listing,
+        views,
+        state::PER_CLIENT * client,
+        values,
+        fresh,
+        n,
+    );
     let outcome = early(
         number,
         sessions,
@@ -156,14 +164,14 @@ pub fn commit_to(
     n: usize,
     me: CommitNumber,
 ) -> Outcome
-    requires { ⌜ (1 ≤ n) × (n ≤ maxKeys) × (me .0 < numbers) × (at .client < maxClients) × (at .masks + 8 * n ≤ length (now file)) × (at .operations + 8 * at .count ≤ length (now file)) × (operationsFit (now file) (at .operations) n 0 (at .count) ≡ true) ⌝ }
+    requires { ⌜ (1 ≤ n) × (n ≤ maxKeys) × (me .0 < numbers) × (at .client < maxClients) × ListingFits (now file) n (at .listing) × OperationsFit (now file) n (at .operations) (at .count) ⌝ }
     requires { ⌜ ValuesRoom (now values) × FreshRoom (now fresh) × VerdictsRoom (now verdicts) ⌝ }
     requires { ⌜ Room (now versions) (now keys) (now views) (now seen) (now sessions) (now commits) (now links) ⌝ }
     ensures { λ r. ⌜
         ((g : Configuration) (clients : ℕ) (fs : Level → Option Failure)
-        → Recorded g (commitIn (now (file .entry)) at n) clients n (now (versions .entry)) (now (keys .entry)) (now (views .entry)) (now (seen .entry)) (now (sessions .entry)) (now (commits .entry)) (now (links .entry))
+        → Recorded g (commitIn g (now (file .entry)) at n) clients n (now (versions .entry)) (now (keys .entry)) (now (views .entry)) (now (seen .entry)) (now (sessions .entry)) (now (commits .entry)) (now (links .entry))
         → nextNumber (g .store) ≡ me .0 → ValuesFit (now (values .entry)) → KeepsVerdicts fs (now (verdicts .entry))
-        → EventDone number g fs (commit (commitIn (now (file .entry)) at n)) (now (versions .exit)) (now (keys .exit)) (now (views .exit)) (now (seen .exit)) (now (sessions .exit)) (now (commits .exit)) (now (links .exit)) (now (verdicts .exit)) (now (values .exit)) r)
+        → EventDone number g fs (commit (commitIn g (now (file .entry)) at n)) (now (versions .exit)) (now (keys .exit)) (now (views .exit)) (now (seen .exit)) (now (sessions .exit)) (now (commits .exit)) (now (links .exit)) (now (verdicts .exit)) (now (values .exit)) r)
         ⌝ }
 {
     let client = at.client;

@@ -3,6 +3,7 @@
 // words for all calls. What the answer is stands in the definitions that the contracts name.
 mod sessions; // sessions.rt: the close of a session, with the record by value
 
+use converting::Edition;
 use pieces::Session;
 ghost use mathlib.Core.Path.{_≡_};
 ghost use mathlib.Core.List.{List, [], _++_};
@@ -12,7 +13,10 @@ ghost use Rattle.endian.specs.Endian.{putAt};
 ghost use Rattle.answer.specs.Answer.{imageAfter, ImageFits};
 ghost use Rattle.answer.specs.Demand3.{Demand3};
 ghost use Rattle.answer.specs.Written.{replayAnswer, replayAfter, ReplayFits, ReadsBack};
+ghost use Rattle.answer.specs.Converted.{convertAnswer, convertAfter, WrittenSame};
+ghost use Rattle.trace.specs.Edition as Editions;
 ghost use Rattle.judging.specs.Answers.{toldAnswer};
+ghost use Rattle.converting.specs.Answers.{editionOf};
 ghost use Rattle.pieces.specs.Piece.{opened, pieceCode, counted, keptAfter};
 ghost use Rattle.pieces.specs.Close.{closeAnswer, closeImage, RefusalKeepsImage, shut};
 ghost use Rattle.pieces.specs.Has.{Has, JudgesJoined};
@@ -66,6 +70,66 @@ pub extern "C" fn replay_file(file: &[u8], buffer: &mut [u8], out: &mut [u64]) -
         return words::NO_ROOM;
     }
     words::put_replay(out, replaying::write(file, buffer))
+}
+
+// A taken file in an edition; where there is no room for the words of a refusal nothing is done.
+fn convert_file(file: &[u8], buffer: &mut [u8], out: &mut [u64], edition: Edition) -> u64
+    ensures room { λ r. ⌜
+        (length (now (out .entry)) < refusalLength
+        → (r ≡ noRoom) × (now (out .exit) ≡ now (out .entry)) × (now (buffer .exit) ≡ now (buffer .entry)))
+        ⌝ }
+    ensures answer { λ r. ⌜
+        (refusalLength ≤ length (now (out .entry))
+        → (r ≡ codeOf (convertAnswer (editionOf edition) (now (file .entry)) (length (now (buffer .entry)))))
+        × (now (out .exit) ≡ putAt (now (out .entry)) 0 (replayWords (convertAnswer (editionOf edition) (now (file .entry)) (length (now (buffer .entry))))))
+        × (now (buffer .exit) ≡ convertAfter (editionOf edition) (now (file .entry)) (now (buffer .entry)))
+        × WrittenSame (editionOf edition) (now (file .entry)) (length (now (buffer .entry))) (now (buffer .exit)))
+        ⌝ }
+{
+    let room = out.len();
+    if room < words::REFUSAL {
+        return words::NO_ROOM;
+    }
+    words::put_conversion(out, converting::convert(file, buffer, edition))
+}
+
+// Writes a taken file short (02, E6) at the start of `buffer`, record for record: each shift as a kind 6 that lists exactly the keys that change, each commit as
+// a kind 5. Or a refusal with codes 1 to 14; 22, where the file would be longer than 65,536 bytes; 17, where `buffer` is shorter than the file; and `buffer` as
+// it came. What was written gets the same answer and image, and written long it is what the other would be. Where there is no room for the words of a
+// refusal nothing is done.
+#[no_mangle]
+pub extern "C" fn short_file(file: &[u8], buffer: &mut [u8], out: &mut [u64]) -> u64
+    ensures room { λ r. ⌜
+        (length (now (out .entry)) < refusalLength
+        → (r ≡ noRoom) × (now (out .exit) ≡ now (out .entry)) × (now (buffer .exit) ≡ now (buffer .entry)))
+        ⌝ }
+    ensures answer { λ r. ⌜
+        (refusalLength ≤ length (now (out .entry))
+        → (r ≡ codeOf (convertAnswer Editions.short (now (file .entry)) (length (now (buffer .entry)))))
+        × (now (out .exit) ≡ putAt (now (out .entry)) 0 (replayWords (convertAnswer Editions.short (now (file .entry)) (length (now (buffer .entry))))))
+        × (now (buffer .exit) ≡ convertAfter Editions.short (now (file .entry)) (now (buffer .entry)))
+        × WrittenSame Editions.short (now (file .entry)) (length (now (buffer .entry))) (now (buffer .exit)))
+        ⌝ }
+{
+    convert_file(file, buffer, out, Edition::Short)
+}
+
+// The same, long: each shift as a kind 2, each commit as a kind 3.
+#[no_mangle]
+pub extern "C" fn long_file(file: &[u8], buffer: &mut [u8], out: &mut [u64]) -> u64
+    ensures room { λ r. ⌜
+        (length (now (out .entry)) < refusalLength
+        → (r ≡ noRoom) × (now (out .exit) ≡ now (out .entry)) × (now (buffer .exit) ≡ now (buffer .entry)))
+        ⌝ }
+    ensures answer { λ r. ⌜
+        (refusalLength ≤ length (now (out .entry))
+        → (r ≡ codeOf (convertAnswer Editions.long (now (file .entry)) (length (now (buffer .entry)))))
+        × (now (out .exit) ≡ putAt (now (out .entry)) 0 (replayWords (convertAnswer Editions.long (now (file .entry)) (length (now (buffer .entry))))))
+        × (now (buffer .exit) ≡ convertAfter Editions.long (now (file .entry)) (now (buffer .entry)))
+        × WrittenSame Editions.long (now (file .entry)) (length (now (buffer .entry))) (now (buffer .exit)))
+        ⌝ }
+{
+    convert_file(file, buffer, out, Edition::Long)
 }
 
 // The report on a trace file as text, at the start of `text`, and its length; `image` is left as `judge_file` leaves it. Where `text` is shorter than the

@@ -30,8 +30,8 @@ use Rattle.answer.proofs.ReplayFile.{replay-records}
 use Rattle.verdicts.specs.Told.{Told, tell, tellAll, verdictOf, verdictsOf}
 use Rattle.verdicts.specs.declared.told.Verdicts.{Verdicts}
 use Rattle.taking.specs.Taking.{Takes}
+use Rattle.taking.proofs.ToCome.{only-trace}
 use Rattle.replaying.specs.Answers.{Ending}
-use Rattle.replaying.proofs.Standing.{only-trace}
 
 -- ---- the verdict that was told
 

@@ -10,6 +10,7 @@ use Rattle.store.specs.Update.{final}
 use Rattle.trace.specs.Entry.{event}
 use Rattle.trace.specs.Format.{operationsAt, shiftLength}
 use Rattle.trace.specs.Meaning.{entryOf}
+use Rattle.trace.specs.declared.records.Listing.{Listing}
 use Rattle.trace.specs.declared.records.Record.{Record}
 use Rattle.trace.specs.declared.records.Record.the-variants as Record-is
 use Rattle.trace.specs.Encode.{eventBytes, eventsBytes}
@@ -31,13 +32,13 @@ put-both n r c d at {next} e room p q =
 -- ---- the record at hand
 
 -- nothing is written for a shift
-pub wrote-shift : (n : ℕ) (file : List ℕ) {x : Record} {client masks : ℕ} → x ≡ Record-is.Shift client masks → (g r : Configuration) (at : ℕ) (buffer full : List ℕ)
+pub wrote-shift : (n : ℕ) (file : List ℕ) {x : Record} {client : ℕ} {l : Listing} → x ≡ Record-is.Shift client l → (g r : Configuration) (at : ℕ) (buffer full : List ℕ)
     → Full (r .store) n full → Wrote n r (event g (entryOf file n x)) at buffer buffer full
 unfolding entryOf event replayStep eventsBytes final
 wrote-shift n file e g r at buffer full f = rw e (record { put = put-none buffer at; full = f })
 
 -- for a commit, what is written for what it means
-pub wrote-commit : (n : ℕ) (file : List ℕ) {x : Record} {client count session operations masks : ℕ} → x ≡ Record-is.Commit client count session operations masks
+pub wrote-commit : (n : ℕ) (file : List ℕ) {x : Record} {client count session operations : ℕ} {l : Listing} → x ≡ Record-is.Commit client count session operations l
     → (g r : Configuration) (at : ℕ) {buffer after full : List ℕ}
     → ((u : View) → Wrote n r (commit (record { client = client; session = session; operations = operationsAt file operations count; viewAfter = u })) at buffer after full)
     → Wrote n r (event g (entryOf file n x)) at buffer after full

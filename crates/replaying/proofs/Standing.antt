@@ -8,7 +8,7 @@ use Rattle.endian.specs.Endian.{Bytes, putAt}
 use Rattle.endian.proofs.Put.{put-none, put-then}
 use Rattle.store.specs.Limits.{maxKeys, maxClients, minBytes, maxReplay}
 use Rattle.store.specs.Store.{Configuration, openingStore, opening, Event}
-use Rattle.store.specs.Update.{final}
+use Rattle.store.specs.Update.{step, final}
 use Rattle.trace.specs.Result.{taken}
 use Rattle.trace.specs.Entry.{event}
 use Rattle.trace.specs.Format.{Trace, decode}
@@ -24,18 +24,16 @@ use Rattle.answer.specs.Replay.{replayStep, replayEvents, replayTrace, replay}
 use Rattle.answer.proofs.ReplayFile.{replay-longest}
 use Rattle.taking.proofs.InForm.{traceIn}
 use Rattle.replaying.specs.Full.{Full, Wrote, replayLength}
-use Rattle.replaying.proofs.Turns.{ToCome, Turn, all-to-come, none-to-come, in-form, turn, length-step, bytes-first, length-first, commits-step}
+use Rattle.taking.proofs.ToCome.{only-trace, ToCome, Turn, all-to-come, none-to-come, in-form, turn}
+use Rattle.replaying.proofs.Turns.{length-step, bytes-first, length-first, commits-step}
 use Rattle.replaying.proofs.Full.{full-opening}
 
--- a file in form is read as no other trace
-pub only-trace : {file : List ℕ} {h : Header} (w : WholeFile file h) (t : Trace) → decode file ≡ taken t → traceIn w ≡ t
-only-trace w t d = taken-injective (sym (w .decoded) ∙ d)
-
--- the records to come of a file in form with trace t, and the configuration that the replay of those before them has come to
+-- the records to come of a file in form, with the configuration that those before them left, and the one that their replay has come to
 pub record Going (file : List ℕ) (h : Header) (left at : ℕ) : Type 0 where
+  pub g : Configuration
   pub r : Configuration
   pub es : List Event
-  pub to-come : ToCome file h left at (r .store .commits) es
+  pub to-come : ToCome file h left at (r .store .commits) g es
 
 -- what the replay still has to come
 abbrev rest : {file : List ℕ} {h : Header} {left at : ℕ} → Going file h left at → List Event
@@ -43,7 +41,7 @@ rest s = replayEvents (s .r) (s .es)
 
 pub goes-from : {file : List ℕ} {h : Header} → WholeFile file h → Going file h (h .records) minBytes
 unfolding opening openingStore
-goes-from {file} {h} w = record { r = opening (h .keys); es = traceIn w .events; to-come = all-to-come w }
+goes-from {file} {h} w = record { g = opening (h .keys); r = opening (h .keys); es = traceIn w .events; to-come = all-to-come w }
 
 module _ {file : List ℕ} {h : Header} {left at : ℕ} (s : Going file h left at) where
   -- nothing is to come at the end
@@ -56,11 +54,11 @@ module _ {file : List ℕ} {h : Header} {left at : ℕ} (s : Going file h left a
 
   module _ (bytes : Bytes file) (few : h .clients ≤ maxClients) (some-left : 0 < left) (x : Record) (next : ℕ) (says : RecordSays file at (h .keys) (h .clients) (Whole x next)) where
     -- the record at hand
-    pub this : Turn file h left at (s .r .store .commits) (s .es) x next
+    pub this : Turn file h left at (s .r .store .commits) (s .g) (s .es) x next
     this = turn (s .to-come) bytes few some-left x next says
 
     abbrev meant : Event
-    meant = event (this .g) (entryOf file (h .keys) x)
+    meant = event (s .g) (entryOf file (h .keys) x)
 
     -- what the replay has for it
     abbrev own : List Event
@@ -68,19 +66,20 @@ module _ {file : List ℕ} {h : Header} {left at : ℕ} (s : Going file h left a
 
     abbrev pub goes-on : Going file h (left - 1) next
     goes-on = record {
+      g = step (s .g) meant;
       r = final (s .r) own;
       es = this .others;
-      to-come = subst (λ (m : ℕ). ToCome file h (left - 1) next m (this .others)) (sym (commits-step file (h .keys) (s .r) (this .g) x)) (this .to-come);
+      to-come = subst (λ (m : ℕ). ToCome file h (left - 1) next m (step (s .g) meant) (this .others)) (sym (commits-step file (h .keys) (s .r) (s .g) x)) (this .to-come);
     }
 
     -- and what is to come after it
     length-own : length (eventsBytes (h .keys) own) ≡ replayLength (h .keys) x
-    length-own = length-eventsBytes (h .keys) own ∙ length-step file (h .keys) (s .r) (this .g) x
+    length-own = length-eventsBytes (h .keys) own ∙ length-step file (h .keys) (s .r) (s .g) x
 
     pub length-on : eventsLength (h .keys) (rest s) ≡ replayLength (h .keys) x + eventsLength (h .keys) (rest goes-on)
     length-on =
         let first = length-first (h .keys) (s .r) meant (this .is-first) in
-        let own-length = length-step file (h .keys) (s .r) (this .g) x in
+        let own-length = length-step file (h .keys) (s .r) (s .g) x in
         omega arith
 
     -- bytes put for it, and then those to come, are those that were to come
@@ -146,7 +145,7 @@ pub written-on : {file start : List ℕ} {h : Header} {t : Trace} {left at to : 
     → {after grown : List ℕ} {end : ℕ} → ((g r : Configuration) → Full (r .store) (h .keys) masks → Wrote (h .keys) r (event g (entryOf file (h .keys) x)) to buffer after grown)
     → end ≡ to + replayLength (h .keys) x → length after ≡ length buffer → Written file start h t (left - 1) next end after grown
 written-on {h = h} {buffer = buffer} s bytes few some-left x next says {after} wrote e same =
-    let one = wrote (this (s .going) bytes few some-left x next says .g) (s .going .r) (s .full) in
+    let one = wrote (s .going .g) (s .going .r) (s .full) in
     let on = goes-on (s .going) bytes few some-left x next says in
     record {
       going = on;

@@ -30,5 +30,5 @@ grownMask ranks k m = choose (has ranks (2 * k + 1)) (2 * m + 1) m
 
 -- how many bytes the replay has for a record: a shift and a commit for a commit
 abbrev pub replayLength : ℕ → Record → ℕ
-replayLength n (Shift client masks) = 0
-replayLength n (Commit client count session operations masks) = shiftLength n + commitLength n count
+replayLength n (Shift client l) = 0
+replayLength n (Commit client count session operations l) = shiftLength n + commitLength n count

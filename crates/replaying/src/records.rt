@@ -5,17 +5,16 @@ use store::Store;
 use trace::form::Header;
 use trace::records::Record;
 ghost use mathlib.Core.Path.{_≡_};
-ghost use mathlib.Core.Bool.{true};
-ghost use Prim.Native.Nat.{_+_, _*_, _≤_, _<_};
+ghost use Prim.Native.Nat.{_+_, _≤_, _<_};
 ghost use lib.ListN.{length};
 ghost use Rattle.endian.specs.Endian.{putAt};
 ghost use Rattle.store.specs.Limits.{maxKeys, maxClients, maxCommits, minBytes, maxReplay};
 ghost use Rattle.store.specs.Store.{View, Configuration, commit};
 ghost use Rattle.trace.specs.Result.{taken};
 ghost use Rattle.trace.specs.Entry.{event};
-ghost use Rattle.trace.specs.Format.{Trace, operationsAt, operationsFit, shiftLength, commitLength, decode};
+ghost use Rattle.trace.specs.Format.{Trace, operationsAt, shiftLength, commitLength, decode};
 ghost use Rattle.trace.specs.Encode.{eventsBytes};
-ghost use Rattle.trace.specs.Meaning.{entryOf, WholeFile};
+ghost use Rattle.trace.specs.Meaning.{entryOf, OperationsFit, WholeFile};
 ghost use Rattle.answer.specs.Replay.{replayTrace, replay};
 ghost use Rattle.state.specs.Room.{FreshRoom, ValuesRoom};
 ghost use Rattle.run.specs.OneRecord.{Readable};
@@ -29,14 +28,14 @@ fn length_for(x: Record, n: usize) -> usize
     match x {
         Record::Shift {
             client: _,
-            masks: _,
+            listing: _,
         } => 0,
         Record::Commit {
             client: _,
             count,
             session: _,
             operations: _,
-            masks: _,
+            listing: _,
         } => 6 + 8 * n + (10 + 8 * count + 8 * n),
     }
 }
@@ -74,7 +73,7 @@ fn write_commit(
     n: usize,
 ) -> usize
     requires { ⌜ (n ≤ maxKeys) × FreshRoom (now full) × ValuesRoom (now values) × (client < maxClients) × (at + (shiftLength n + commitLength n count) ≤ length (now buffer)) ⌝ }
-    requires { ⌜ (operations + 8 * count ≤ length (now file)) × (operationsFit (now file) operations n 0 count ≡ true) ⌝ }
+    requires { ⌜ OperationsFit (now file) n operations count ⌝ }
     requires { ⌜ ((r : Configuration) × (r .store .commits < maxCommits) × Full (r .store) n (now full)) ⌝ }
     ensures { λ to. ⌜ to ≡ at + (shiftLength n + commitLength n count) ⌝ }
     ensures { λ _. ⌜ ((r : Configuration) (u : View) → Full (r .store) n (now (full .entry))
@@ -117,14 +116,14 @@ fn write_one(
     match x {
         Record::Shift {
             client: _,
-            masks: _,
+            listing: _,
         } => at,
         Record::Commit {
             client,
             count,
             session,
             operations,
-            masks: _,
+            listing: _,
         } => write_commit(
             file,
             buffer,

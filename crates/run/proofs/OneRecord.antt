@@ -10,12 +10,13 @@ use Rattle.store.specs.Limits.{maxClients, maxCommits}
 use Rattle.store.specs.Store.{Configuration, opening, nextNumber, Event, shift, commit}
 use Rattle.store.specs.Update.{step}
 use Rattle.store.specs.Refusal.{refusesEvent}
-use Rattle.trace.specs.Entry.{listedOr, over, event}
-use Rattle.trace.specs.Format.{Header, viewAt, commitsWith}
-use Rattle.trace.specs.Meaning.{entryOf, readingOf, PlacesFit, RecordSays}
+use Rattle.trace.specs.Entry.{viewMeant, event}
+use Rattle.trace.specs.Format.{Header, commitsWith}
+use Rattle.trace.specs.Meaning.{listingOf, entryOf, readingOf, PlacesFit, RecordSays}
 use Rattle.trace.proofs.Decoded.{ReadAt, record-read}
 use Rattle.trace.specs.WellFormed.{FitsEvent}
 use Rattle.trace.proofs.Entries.{sound-fits, opening-fits}
+use Rattle.trace.specs.declared.records.Listing.{Listing}
 use Rattle.trace.specs.declared.records.Record.{Record}
 use Rattle.trace.specs.declared.records.Record.the-variants.{Shift, Commit}
 use Rattle.trace.specs.declared.records.Reading.the-variants.{Whole}
@@ -35,28 +36,28 @@ use Rattle.run.specs.OneRecord.{Readable, Standing, Fitting}
 pub record-readable : (file : List ℕ) → Bytes file → (at n clients made : ℕ) (r : Record) (next : ℕ) → clients ≤ maxClients → RecordSays file at n clients (Whole r next)
     → commitsWith (entryOf file n r) made ≤ maxCommits → Readable file n made r
 unfolding entryOf readingOf PlacesFit event
-record-readable file bytes at n clients made (Shift client masks) next few (means, places) room =
+record-readable file bytes at n clients made (Shift client l) next few (means, places) room =
     let h : Header = record { keys = n; clients = clients; records = 0 } in
     let read = subst (ReadAt file h) (sym (means 0)) (record-read file bytes h at) in
     let below = read .0 (opening n) (opening-fits n) .client-below in
-    (omega arith, omega arith)
-record-readable file bytes at n clients made (Commit client count session operations masks) next few (means, places) room =
+    (omega arith, places .0)
+record-readable file bytes at n clients made (Commit client count session operations l) next few (means, places) room =
     let h : Header = record { keys = n; clients = clients; records = 0 } in
     let read = subst (ReadAt file h) (sym (means 0)) (record-read file bytes h at) in
     let below = read .0 (opening n) (opening-fits n) .client-below in
-    (omega arith, omega arith, places .0, places .3, room)
+    (omega arith, places .0, places .2, room)
 
 -- ---- a shift
 
-module _ (file : List ℕ) (n client masks made : ℕ) {r : Record} (is : r ≡ Shift client masks) (number : ℕ) {versions keys views seen views′ seen′ : List ℕ} (o : Outcome)
-    (answer : (g : Configuration) → ShiftGiven g (viewAt file masks n) n versions keys views seen → outcomeOf o ≡ refusesEvent number g (shift client (viewAt file masks n)))
-    (kept : (g : Configuration) → ShiftGiven g (viewAt file masks n) n versions keys views seen → o ≡ Taken → KeepsViews (step g (shift client (viewAt file masks n))) views′ seen′) where
-  shift-event : (g : Configuration) → shift client (viewAt file masks n) ≡ event g (entryOf file n r)
-  unfolding entryOf event over listedOr
+module _ (file : List ℕ) (n client : ℕ) (listing : Listing) (made : ℕ) {r : Record} (is : r ≡ Shift client listing) (number : ℕ) {versions keys views seen views′ seen′ : List ℕ} (o : Outcome)
+    (answer : (g : Configuration) → ShiftGiven g (viewMeant g client (listingOf file n listing)) n versions keys views seen → outcomeOf o ≡ refusesEvent number g (shift client (viewMeant g client (listingOf file n listing))))
+    (kept : (g : Configuration) → ShiftGiven g (viewMeant g client (listingOf file n listing)) n versions keys views seen → o ≡ Taken → KeepsViews (step g (shift client (viewMeant g client (listingOf file n listing)))) views′ seen′) where
+  shift-event : (g : Configuration) → shift client (viewMeant g client (listingOf file n listing)) ≡ event g (entryOf file n r)
+  unfolding entryOf event
   shift-event g = ap (λ (x : Record). event g (entryOf file n x)) (sym is)
 
   module _ {sessions commits links verdicts values : List ℕ} (g : Configuration) (fs : Level → Option Failure) (s : Standing g fs n made versions keys views seen sessions commits links verdicts values) where
-    shift-given : {clients : ℕ} → FitsEvent n clients (shift client (viewAt file masks n)) → ShiftGiven g (viewAt file masks n) n versions keys views seen
+    shift-given : {clients : ℕ} → FitsEvent n clients (shift client (viewMeant g client (listingOf file n listing))) → ShiftGiven g (viewMeant g client (listingOf file n listing)) n versions keys views seen
     shift-given f = record {
       sound = s .sound;
       ordered = s .ordered;
@@ -68,7 +69,7 @@ module _ (file : List ℕ) (n client masks made : ℕ) {r : Record} (is : r ≡ 
       fits = f .view-fits;
     }
 
-    no-failure : (l : Level) → orElse (fs l) (failsEvent l number g (shift client (viewAt file masks n))) ≡ fs l
+    no-failure : (l : Level) → orElse (fs l) (failsEvent l number g (shift client (viewMeant g client (listingOf file n listing)))) ≡ fs l
     unfolding orElse failsEvent
     no-failure l = or-none (fs l)
       where
@@ -76,8 +77,8 @@ module _ (file : List ℕ) (n client masks made : ℕ) {r : Record} (is : r ≡ 
         or-none none = refl
         or-none (some x) = refl
 
-    shift-done : ShiftGiven g (viewAt file masks n) n versions keys views seen
-        → EventDone number g fs (shift client (viewAt file masks n)) versions keys views′ seen′ sessions commits links verdicts values o
+    shift-done : ShiftGiven g (viewMeant g client (listingOf file n listing)) n versions keys views seen
+        → EventDone number g fs (shift client (viewMeant g client (listingOf file n listing))) versions keys views′ seen′ sessions commits links verdicts values o
     unfolding step
     shift-done given = record {
       answer = answer g given;
@@ -105,18 +106,18 @@ module _ (file : List ℕ) (n client masks made : ℕ) {r : Record} (is : r ≡ 
 
 -- ---- a commit
 
-module _ (file : List ℕ) (n : ℕ) (at : CommitAt) (made : ℕ) {r : Record} (is : r ≡ Commit (at .client) (at .count) (at .session) (at .operations) (at .masks)) where
-  commit-event : (g : Configuration) → commit (commitIn file at n) ≡ event g (entryOf file n r)
-  unfolding entryOf event over listedOr
+module _ (file : List ℕ) (n : ℕ) (at : CommitAt) (made : ℕ) {r : Record} (is : r ≡ Commit (at .client) (at .count) (at .session) (at .operations) (at .listing)) where
+  commit-event : (g : Configuration) → commit (commitIn g file at n) ≡ event g (entryOf file n r)
+  unfolding entryOf event
   commit-event g = ap (λ (x : Record). event g (entryOf file n x)) (sym is)
 
   module _ (number : ℕ) {versions keys views seen sessions commits links verdicts values : List ℕ} {versions′ keys′ views′ seen′ sessions′ commits′ links′ verdicts′ : List ℕ} (values′ : List ℕ) (o : Outcome)
       (done : (g : Configuration) (clients : ℕ) (fs : Level → Option Failure)
-      → Recorded g (commitIn file at n) clients n versions keys views seen sessions commits links → nextNumber (g .store) ≡ made + 1 → ValuesFit values → KeepsVerdicts fs verdicts
-      → EventDone number g fs (commit (commitIn file at n)) versions′ keys′ views′ seen′ sessions′ commits′ links′ verdicts′ values′ o)
+      → Recorded g (commitIn g file at n) clients n versions keys views seen sessions commits links → nextNumber (g .store) ≡ made + 1 → ValuesFit values → KeepsVerdicts fs verdicts
+      → EventDone number g fs (commit (commitIn g file at n)) versions′ keys′ views′ seen′ sessions′ commits′ links′ verdicts′ values′ o)
       (g : Configuration) (fs : Level → Option Failure) (s : Standing g fs n made versions keys views seen sessions commits links verdicts values) (room : made < maxCommits) where
-    recorded : (clients : ℕ) → clients ≤ maxClients → FitsEvent n clients (commit (commitIn file at n))
-        → Recorded g (commitIn file at n) clients n versions keys views seen sessions commits links
+    recorded : (clients : ℕ) → clients ≤ maxClients → FitsEvent n clients (commit (commitIn g file at n))
+        → Recorded g (commitIn g file at n) clients n versions keys views seen sessions commits links
     recorded clients few f = record {
       sound = s .sound;
       ordered = s .ordered;

@@ -45,10 +45,10 @@ pub fn one_record(
         ⌝ }
 {
     match r {
-        Record::Shift { client, masks } => {
+        Record::Shift { client, listing } => {
             shift_to(
                 file,
-                masks,
+                listing,
                 number,
                 client,
                 versions,
@@ -64,14 +64,14 @@ pub fn one_record(
             count,
             session,
             operations,
-            masks,
+            listing,
         } => {
             let at = CommitAt {
                 client,
                 count,
                 session,
                 operations,
-                masks,
+                listing,
             };
             let next = made + 1;
             commit_to(

@@ -2,3 +2,4 @@ pub mod Tests
 pub mod Choose
 pub mod Search
 pub mod Steps
+pub mod Counting

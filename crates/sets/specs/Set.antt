@@ -1,10 +1,11 @@
 -- A word of 64 bits as a set of numbers below 64: "bit i of a mask stands for version i" (01, The trace file), and
 -- "readers u64 with bit c for commit c" (01, The image). Assumes nothing.
-use Prim.Native.Nat.{ℕ, _-_, _/_, _%_, _^_}
+use Prim.Native.Nat.{ℕ, zero, suc, _-_, _/_, _%_, _^_}
 use mathlib.Core.Bool.{Bool}
 use lib.Dec.{eqb}
 use lib.Bits.{bitAnd, bitOr, bitXor}
 use lib.Count.{leadingZeros, trailingZeros, ones}
+use Rattle.search.specs.Choose.{choose}
 
 -- a set, as the number that its bits make
 abbrev pub Set : Type 0
@@ -49,3 +50,8 @@ lowest m = trailingZeros 64 m
 -- how many numbers the set holds: "ones count readers" (01, Which shape goes where)
 unfoldable pub size : Set → ℕ
 size m = ones m
+
+-- the numbers below n that pass a test
+unfoldable pub setOf : ℕ → (ℕ → Bool) → Set
+setOf zero f = 0
+setOf (suc n) f = choose (f n) (insert n (setOf n f)) (setOf n f)

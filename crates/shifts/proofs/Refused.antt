@@ -4,19 +4,16 @@ use mathlib.Core.Path.{_≡_, refl, sym, ap, _∙_}
 use mathlib.Core.Option.{Option, some, none}
 use mathlib.Core.List.{List, [], _∷_}
 use native.Mathlib.Omega.{arith}
-use lib.Dec.{ltb, lt→ltb}
 use lib.ListN.{length, getD}
 use Rattle.search.specs.Choose.{mapSome, orElse, firstSome}
-use Rattle.search.proofs.Choose.{choose-yes}
 use Rattle.search.proofs.Tests.{some-none, map-none, firstSome-none}
-use Rattle.endian.specs.Endian.{leAt}
 use Rattle.store.specs.Limits.{maxKeys, maxClients}
 use Rattle.store.specs.Store.{Client, View, Store, Configuration, shift}
 use Rattle.store.specs.Missing.{Place, missing}
 use Rattle.store.specs.Refusal.{Refusal, badMask, halfHeld, allOf, lost, refuseKey, refusePlace, refusesEvent}
 use Rattle.state.specs.Keeps.{KeepsMasks}
 use Rattle.views.specs.Viewed.{NewMasks}
-use Rattle.trace.specs.Format.{viewAt}
+use Rattle.trace.specs.Entry.{Listed, listedOr, over}
 use Rattle.shifts.specs.declared.Outcome.{Outcome}
 use Rattle.shifts.specs.declared.Outcome.the-variants.{Taken}
 use Rattle.shifts.specs.Outcomes.{outcomeOf, maskRefusal, ShiftGiven}
@@ -76,6 +73,11 @@ not-taken r e t = some-none (sym e ∙ ap outcomeOf t)
 
 -- ---- what is given, as each call asks it
 
+-- the client's view, as the array has it
+pub row-given : (g : Configuration) (u : View) (client n : ℕ) (versions keys views seen : List ℕ) → client < maxClients → ShiftGiven g u n versions keys views seen
+    → (k : ℕ) → k < n → getD views (maxKeys * client + k) 0 ≡ g .views client k
+row-given g u client n versions keys views seen b h k l = h .in-views .rows client b k (omega (arith, h .keys-are))
+
 -- the masks of the record, and the client's view
 pub masks-given : (g : Configuration) (u : View) (client n : ℕ) (versions keys views seen fresh : List ℕ) → client < maxClients → ShiftGiven g u n versions keys views seen → KeepsMasks n u fresh
     → NewMasks (g .store) (g .views client) u n versions keys views (maxKeys * client) (getD seen client 0) fresh
@@ -86,7 +88,7 @@ masks-given g u client n versions keys views seen fresh b h f = record {
     few = h .few;
     in-versions = h .in-versions;
     in-keys = h .in-keys;
-    in-masks = λ k l. h .in-views .rows client b k (omega (arith, h .keys-are));
+    in-masks = row-given g u client n versions keys views seen b h;
   };
   ordered = h .ordered;
   view = h .sound .views client;
@@ -95,11 +97,8 @@ masks-given g u client n versions keys views seen fresh b h f = record {
   fits = h .fits;
 }
 
--- the masks of a record, once they are read
-pub masks-read : (file : List ℕ) (masks n : ℕ) (fresh : List ℕ) → length fresh ≡ maxKeys → ((k : ℕ) → k < n → getD fresh k 0 ≡ leAt file (masks + 8 * k) 8)
-    → KeepsMasks n (viewAt file masks n) fresh
-unfolding viewAt
-masks-read file masks n fresh long same = record {
-  room = long;
-  masks = λ k l. same k l ∙ sym (choose-yes (ltb k n) (leAt file (masks + 8 * k) 8) 0 (lt→ltb k n l));
-}
+-- what a record lists, once it is put over its client's view
+pub masks-filled : (u : View) (l : Listed) (n : ℕ) (row : ℕ → ℕ) (fresh : List ℕ) → length fresh ≡ maxKeys → ((k : ℕ) → k < n → row k ≡ u k)
+    → ((k : ℕ) → k < n → getD fresh k 0 ≡ listedOr (l k) (row k)) → KeepsMasks n (over u l) fresh
+unfolding over
+masks-filled u l n row fresh long same put = record { room = long; masks = λ k below. put k below ∙ ap (listedOr (l k)) (same k below) }

@@ -4,6 +4,7 @@ use mathlib.Core.Path.{_≡_, sym, ap, _∙_, subst}
 use mathlib.Core.Logic.{_⊎_, inl, inr, _↔_, _≢_}
 use mathlib.Core.List.{List}
 use native.Mathlib.Omega.{arith}
+use native.Mathlib.Nat.{zero-add}
 use native.Mathlib.Decide.{ℕ-discrete, decLt}
 use lib.ListN.{getD, set, length-set}
 use lib.Seq.{getD-set-same, getD-set-other}
@@ -18,8 +19,28 @@ use Rattle.growth.specs.Made.{Made}
 use Rattle.growth.proofs.Views.{holds-kept}
 use Rattle.state.specs.Places.{viewPlace}
 use Rattle.state.specs.Keeps.{IsSet, RowIs, KeepsViews, KeepsMasks}
+use Rattle.state.specs.Rows.{RowAt}
 use Rattle.state.proofs.Sets.{isSet-as}
 use Rattle.views.specs.Rows.{Kept}
+
+-- the rows of the views, where that of client d became u
+pub rows-replaced : (before after : Client → View) (d : Client) (u : View) (n : ℕ) → n ≤ maxKeys → after d ≡ u → ((e : Client) → e ≢ d → after e ≡ before e)
+    → (views views′ fresh : List ℕ) → ((e : Client) → e < maxClients → RowIs n views e (before e)) → RowAt n fresh 0 u → Kept fresh (maxKeys * d) n views views′
+    → (e : Client) → e < maxClients → RowIs n views′ e (after e)
+rows-replaced before after d u n few own others views views′ fresh rows f k e be = at-client (ℕ-discrete e d)
+  where
+    outside : (i : ℕ) → i < n → e ≢ d → (viewPlace e i < maxKeys * d) ⊎ (maxKeys * d + n ≤ viewPlace e i)
+    outside i bi ne = go (decLt e d)
+      where
+        go : Dec (e < d) → (viewPlace e i < maxKeys * d) ⊎ (maxKeys * d + n ≤ viewPlace e i)
+        go (yes l) = inl (omega arith)
+        go (no l) = inr (omega arith)
+
+    at-client : Dec (e ≡ d) → RowIs n views′ e (after e)
+    at-client (yes q) i bi =
+        ap (λ (x : ℕ). getD views′ (maxKeys * x + i) 0) q ∙ k .row i bi ∙ ap (λ (x : ℕ). getD fresh x 0) (sym (zero-add i)) ∙ f i bi
+        ∙ ap (λ (v : View). v i) (sym own ∙ ap after (sym q))
+    at-client (no ne) i bi = k .others (viewPlace e i) (outside i bi ne) ∙ rows e be i bi ∙ ap (λ (v : View). v i) (sym (others e ne))
 
 module _ (g g′ : Configuration) (d : Client) (u : View) (n : ℕ) (few : n ≤ maxKeys) (keys-are : g .store .keys ≡ n) (keys-stay : g′ .store .keys ≡ n) (b : d < maxClients)
     (own : g′ .views d ≡ u) (others : (e : Client) → e ≢ d → g′ .views e ≡ g .views e)
@@ -28,26 +49,12 @@ module _ (g g′ : Configuration) (d : Client) (u : View) (n : ℕ) (few : n ≤
       → IsSet m (Holds (history (g′ .store)) (held u)) → KeepsViews g′ views′ (set seen d m)
   view-replaced views views′ seen fresh m h f k s = record {
     room = k .long ∙ h .room;
-    rows = λ e be. rows e be (ℕ-discrete e d);
+    rows = λ e be i bi.
+        rows-replaced (g .views) (g′ .views) d u n few own others views views′ fresh (λ c bc j bj. h .rows c bc j (omega arith)) (λ j bj. ap (λ (x : ℕ). getD fresh x 0) (zero-add j) ∙ f .masks j bj) k e be i (omega arith);
     seen-room = length-set seen d m ∙ h .seen-room;
     holds = λ e be. holds e be (ℕ-discrete e d);
   }
     where
-      outside : (e i : ℕ) → e < maxClients → i < n → e ≢ d → (viewPlace e i < maxKeys * d) ⊎ (maxKeys * d + n ≤ viewPlace e i)
-      outside e i be bi ne = go (decLt e d)
-        where
-          go : Dec (e < d) → (viewPlace e i < maxKeys * d) ⊎ (maxKeys * d + n ≤ viewPlace e i)
-          go (yes l) = inl (omega arith)
-          go (no l) = inr (omega arith)
-
-      rows : (e : Client) → e < maxClients → Dec (e ≡ d) → RowIs (g′ .store .keys) views′ e (g′ .views e)
-      rows e be (yes q) i bi =
-          let bi′ : i < n = omega arith in
-          ap (λ (x : ℕ). getD views′ (maxKeys * x + i) 0) q ∙ k .row i bi′ ∙ f .masks i bi′ ∙ ap (λ (v : View). v i) (sym own ∙ ap (g′ .views) (sym q))
-      rows e be (no ne) i bi =
-          let bi′ : i < n = omega arith in
-          k .others (viewPlace e i) (outside e i be bi′ ne) ∙ h .rows e be i (omega arith) ∙ ap (λ (v : View). v i) (sym (others e ne))
-
       holds : (e : Client) → e < maxClients → Dec (e ≡ d) → IsSet (getD (set seen d m) e 0) (Holds (history (g′ .store)) (held (g′ .views e)))
       holds e be (yes q) =
           let here : getD (set seen d m) e 0 ≡ m = ap (λ (x : ℕ). getD (set seen d m) x 0) q ∙ getD-set-same seen d m 0 (omega (arith, h .seen-room)) in

@@ -5,17 +5,19 @@ use crate::Sight;
 use crate::masks;
 use state::Found;
 use state::Refusal;
+use trace::records::Listing;
 ghost use Prim.Native.Nat.{ℕ, _+_, _*_, _≤_, _<_};
 ghost use mathlib.Core.Path.{_≡_};
 ghost use mathlib.Core.List.{List};
-ghost use lib.ListN.{length, getD};
+ghost use lib.ListN.{getD};
 ghost use Rattle.store.specs.Limits.{maxKeys, maxClients};
 ghost use Rattle.store.specs.Store.{View, Configuration, shift};
 ghost use Rattle.store.specs.Update.{step};
 ghost use Rattle.store.specs.Refusal.{refusesEvent};
 ghost use Rattle.state.specs.Room.{VersionsRoom, KeysRoom, ViewsRoom, SeenRoom, FreshRoom};
 ghost use Rattle.state.specs.Keeps.{KeepsViews, KeepsMasks};
-ghost use Rattle.trace.specs.Format.{viewAt};
+ghost use Rattle.trace.specs.Entry.{viewMeant};
+ghost use Rattle.trace.specs.Meaning.{listingOf, ListingFits};
 ghost use Rattle.shifts.specs.declared.Outcome.the-variants.{Taken};
 ghost use Rattle.shifts.specs.Outcomes.{outcomeOf, ShiftGiven};
 
@@ -85,11 +87,10 @@ fn shift_on(
     }
 }
 
-// Codes 10, 11 and 12 of the masks at a place of the file, those of the record of this number, which are read into `fresh`; where none is due, they become
-// the client's view.
+// Codes 10, 11 and 12 of what the record of this number lists, put over the client's view in `fresh`; where none is due, that becomes the client's view.
 pub fn shift_to(
     file: &[u8],
-    masks: usize,
+    listing: Listing,
     number: usize,
     client: usize,
     versions: &[u64],
@@ -99,17 +100,17 @@ pub fn shift_to(
     fresh: &mut [u64],
     n: usize,
 ) -> Outcome
-    requires { ⌜ (1 ≤ n) × (n ≤ maxKeys) × (client < maxClients) × (masks + 8 * n ≤ length (now file)) ⌝ }
+    requires { ⌜ (1 ≤ n) × (n ≤ maxKeys) × (client < maxClients) × ListingFits (now file) n listing ⌝ }
     requires { ⌜ VersionsRoom (now versions) × KeysRoom (now keys) × ViewsRoom (now views) × SeenRoom (now seen) × FreshRoom (now fresh) ⌝ }
     ensures answer { λ r. ⌜
-        ((g : Configuration) → ShiftGiven g (viewAt (now (file .entry)) masks n) n (now (versions .entry)) (now (keys .entry)) (now (views .entry)) (now (seen .entry))
-        → outcomeOf r ≡ refusesEvent number g (shift client (viewAt (now (file .entry)) masks n)))
+        ((g : Configuration) → ShiftGiven g (viewMeant g client (listingOf (now (file .entry)) n listing)) n (now (versions .entry)) (now (keys .entry)) (now (views .entry)) (now (seen .entry))
+        → outcomeOf r ≡ refusesEvent number g (shift client (viewMeant g client (listingOf (now (file .entry)) n listing))))
         ⌝ }
     ensures kept { λ r. ⌜
-        ((g : Configuration) → ShiftGiven g (viewAt (now (file .entry)) masks n) n (now (versions .entry)) (now (keys .entry)) (now (views .entry)) (now (seen .entry))
-        → r ≡ Taken → KeepsViews (step g (shift client (viewAt (now (file .entry)) masks n))) (now (views .exit)) (now (seen .exit)))
+        ((g : Configuration) → ShiftGiven g (viewMeant g client (listingOf (now (file .entry)) n listing)) n (now (versions .entry)) (now (keys .entry)) (now (views .entry)) (now (seen .entry))
+        → r ≡ Taken → KeepsViews (step g (shift client (viewMeant g client (listingOf (now (file .entry)) n listing)))) (now (views .exit)) (now (seen .exit)))
         ⌝ }
 {
-    trace::contents::masks_into(file, masks, fresh, n);
+    trace::contents::fill(file, listing, views, state::PER_CLIENT * client, fresh, n);
     shift_on(number, client, versions, keys, views, seen, fresh, n)
 }

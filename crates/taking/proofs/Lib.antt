@@ -1,3 +1,4 @@
 pub mod Accepted
 pub mod InForm
 pub mod Cases
+pub mod ToCome

@@ -2,27 +2,35 @@
 -- what is read, if something is. Assumes nothing.
 use Prim.Native.Nat.{ℕ, zero, suc, _+_, _*_, _^_, _≤_, _<_, zero-le}
 use mathlib.Core.Path.{_≡_, refl, sym, ap, subst}
+use mathlib.Core.Bool.{Bool, true, false}
 use mathlib.Core.List.{List, [], _∷_}
 use native.Mathlib.Omega.{arith}
 use lib.Dec.{T, ltb, lit<, eqb→eq, ltb→lt, leb→le}
 use lib.ListN.{length}
 use mir.Facts.{and-yes, no-ltb}
+use Rattle.search.specs.Choose.{when}
+use Rattle.search.specs.Search.{howMany}
 use Rattle.search.proofs.Choose.{choose-no, choose-ind, need-ind}
+use Rattle.search.proofs.Tests.{true-T}
+use Rattle.sets.specs.Set.{has}
+use Rattle.sets.proofs.Laws.{has-lt}
 use Rattle.endian.specs.Endian.{Bytes, leAt}
 use Rattle.endian.proofs.Laws.{leAt-lt}
 use Rattle.store.specs.Limits.{maxCommits, minBytes, maxBytes}
-use Rattle.store.specs.Store.{Configuration, opening}
+use Rattle.store.specs.Store.{Key, View, Configuration, opening}
 use Rattle.store.specs.Update.{step}
 use Rattle.store.specs.View.{FitsView}
 use Rattle.store.proofs.Run.{commitsIn}
 use Rattle.trace.specs.Result.{Result, refused, taken, onTaken}
 use Rattle.trace.specs.Entry.{Entry, listedOr, over, event, eventsOf}
-use Rattle.trace.specs.Format.{Header, Trace, viewAt, accessOf, operationAt, operationsAt, rankAt, operationFits, operationsFit, Reading, misshapen, whole, shiftAt, commitOf, commitAt, recordAt, commitsWith, onRecord, entriesFrom, headerAt, withinLimits, traceOf, decode}
+use Rattle.trace.specs.Listed.{listedAt, touched}
+use Rattle.trace.specs.Format.{Header, Trace, viewAt, accessOf, operationAt, operationsAt, rankAt, operationFits, operationsFit, Reading, misshapen, whole, shiftAt, commitOf, commitAt, shortShiftOf, shortShiftAt, shortCommitOf, shortCommitIn, shortCommitAt, recordAt, commitsWith, onRecord, entriesFrom, headerAt, withinLimits, traceOf, decode}
 use Rattle.trace.specs.Encode.{accessNumber}
 use Rattle.trace.proofs.Tests.{operationFits-is, withinLimits-is}
 use Rattle.trace.specs.WellFormed.{rank, FitsOperation, Rise, ViewsFit, FitsEntry}
 use Rattle.trace.proofs.WellFormed.{FitsEvents, WellFormed}
 use Rattle.trace.proofs.Entries.{length-eventsOf, commitsWith-commitsIn, opening-fits, step-fits}
+use Rattle.trace.proofs.Listed.{touched-key}
 
 -- ---- answers
 
@@ -120,7 +128,7 @@ module _ (s : List ℕ) (bytes : Bytes s) where
       (record { of-the-store = key; value-fits = leAt-lt s bytes 4 (at + 4); no-lower = omega arith }, omega arith)
 
   -- operations that pass rise
-  operations-read : (m at keys low : ℕ) → T (operationsFit s at keys low m) → Rise keys low (operationsAt s at m)
+  pub operations-read : (m at keys low : ℕ) → T (operationsFit s at keys low m) → Rise keys low (operationsAt s at m)
   unfolding operationsFit operationsAt
   operations-read zero at keys low t = tt
   operations-read (suc m) at keys low t =
@@ -159,13 +167,77 @@ module _ (s : List ℕ) (bytes : Bytes s) where
   unfolding commitAt
   commit-read h at = need-ind (ReadAt s h) _ _ _ tt (λ within. commit-of-read h at (leAt s (at + 5) 1))
 
+  -- ---- the short edition
+
+  -- masks that are listed for keys of the store, put over a view that fits
+  listed-read : (at keys : ℕ) (f : Key → Bool) (u : View) → ((k : Key) → T (f k) → k < keys) → FitsView keys u → FitsView keys (over u (listedAt s at f))
+  unfolding over listedOr listedAt when
+  listed-read at keys f u few fits = record {
+    word = λ k. go-word k (f k);
+    beyond = λ k beyond. go-beyond k beyond (f k) refl;
+  }
+    where
+      go-word : (k : Key) (b : Bool) → listedOr (when b (leAt s (at + 8 * howMany k f) 8)) (u k) < 2 ^ 64
+      go-word k true = leAt-lt s bytes 8 (at + 8 * howMany k f)
+      go-word k false = fits .word k
+
+      go-beyond : (k : Key) → keys ≤ k → (b : Bool) → f k ≡ b → listedOr (when b (leAt s (at + 8 * howMany k f) 8)) (u k) ≡ 0
+      go-beyond k beyond true e = absurd (omega (arith, few k (true-T (f k) e)))
+      go-beyond k beyond false e = fits .beyond k beyond
+
+  short-shift-of-read : (h : Header) (at set : ℕ) → ReadAt s h (shortShiftOf s h at set)
+  unfolding shortShiftOf event
+  short-shift-of-read h at set =
+      need-ind (ReadAt s h) _ _ _ tt (λ size.
+      need-ind (ReadAt s h) _ _ _ tt (λ within.
+      need-ind (ReadAt s h) _ _ _ tt (λ client.
+      need-ind (ReadAt s h) _ _ _ tt (λ spare.
+      need-ind (ReadAt s h) _ _ _ tt (λ few. (
+        λ g v. record {
+          client-below = ltb→lt _ _ client;
+          view-fits = listed-read (at + 10) (h .keys) (has set) (g .views (leAt s (at + 4) 1)) (λ k. has-lt (h .keys) set k (ltb→lt _ _ few)) (v (leAt s (at + 4) 1));
+        },
+        leb→le _ _ within,
+      ))))))
+
+  short-shift-read : (h : Header) (at : ℕ) → ReadAt s h (shortShiftAt s h at)
+  unfolding shortShiftAt
+  short-shift-read h at = need-ind (ReadAt s h) _ _ _ tt (λ within. short-shift-of-read h at (leAt s (at + 6) 4))
+
+  short-commit-of-read : (h : Header) (at m : ℕ) → ReadAt s h (shortCommitOf s h at m (operationsAt s (at + 10) m))
+  unfolding shortCommitOf event
+  short-commit-of-read h at m =
+      need-ind (ReadAt s h) _ _ _ tt (λ size.
+      need-ind (ReadAt s h) _ _ _ tt (λ within.
+      need-ind (ReadAt s h) _ _ _ tt (λ client.
+      need-ind (ReadAt s h) _ _ _ tt (λ fit.
+      let rise = operations-read m (at + 10) (h .keys) 0 fit in
+      let os = operationsAt s (at + 10) m in (
+        λ g v. record {
+          client-below = ltb→lt _ _ client;
+          session-fits = leAt-lt s bytes 4 (at + 6);
+          rising = rise;
+          view-fits =
+              listed-read (at + (10 + 8 * m)) (h .keys) (touched os) (g .views (leAt s (at + 4) 1)) (λ k t. touched-key (h .keys) 0 os k rise t .0) (v (leAt s (at + 4) 1));
+        },
+        leb→le _ _ within,
+      )))))
+
+  short-commit-read : (h : Header) (at : ℕ) → ReadAt s h (shortCommitAt s h at)
+  unfolding shortCommitAt shortCommitIn
+  short-commit-read h at =
+      need-ind (ReadAt s h) _ _ _ tt (λ five.
+      need-ind (ReadAt s h) _ _ _ tt (λ within. short-commit-of-read h at (leAt s (at + 5) 1)))
+
   -- what holds of the record at `at`
   pub record-read : (h : Header) (at : ℕ) → ReadAt s h (recordAt s h at)
   unfolding recordAt
   record-read h at =
       need-ind (ReadAt s h) _ _ _ tt (λ four.
       choose-ind (ReadAt s h) _ _ _ (λ t. shift-read h at) (λ t.
-      choose-ind (ReadAt s h) _ _ _ (λ t. commit-read h at) (λ t. tt)))
+      choose-ind (ReadAt s h) _ _ _ (λ t. commit-read h at) (λ t.
+      choose-ind (ReadAt s h) _ _ _ (λ t. short-commit-read h at) (λ t.
+      choose-ind (ReadAt s h) _ _ _ (λ t. short-shift-read h at) (λ t. tt)))))
 
   -- ---- all records
 

@@ -56,8 +56,8 @@ pass-within s h at (Stopped code n) few more said = absurd (true-T _ more)
 -- the record after this one starts within the file
 place-within : (s : List ℕ) (keys at : ℕ) (x : Reading) → at ≤ length s → ReadingFits s keys x → placeAfter x at ≤ length s
 unfolding PlacesFit
-place-within s keys at (Whole (Shift client masks) next) within fit = fit .1
-place-within s keys at (Whole (Commit client count session operations masks) next) within fit = fit .2
+place-within s keys at (Whole (Shift client l) next) within fit = fit .1
+place-within s keys at (Whole (Commit client count session operations l) next) within fit = fit .1
 place-within s keys at (Refused w) within fit = within
 
 -- a record in a run of `suc n` records, at `at` with number `index`, after `commits` commits

@@ -1,5 +1,5 @@
--- The file of a well-formed trace reads back as that trace. One lemma for each definition of the format; each reads what stands at
--- a place of a file. Assumes nothing.
+-- A file of records reads back as the trace whose events they mean; so does the file of a well-formed trace that is written in full. One
+-- lemma for each definition of the format; each reads what stands at a place of a file. Assumes nothing.
 use Prim.Native.Nat.{ℕ, suc, _+_, _*_, _^_, _≤_, _<_}
 use mathlib.Core.Path.{_≡_, refl, sym, ap, ap₂, _∙_, subst, fun-ext}
 use mathlib.Core.List.{List, [], _∷_, map}
@@ -8,7 +8,7 @@ use native.Mathlib.Nat.{zero-add}
 use native.Mathlib.Decide.{decLt}
 use lib.Dec.{T, ltb, lit<, lt→ltb}
 use lib.Arith.{le→nltb}
-use lib.ListN.{length}
+use lib.ListN.{length, length-append}
 use mathlib.Core.Logic.{_≢_}
 use mir.Facts.{yes-and, yes-eqb, yes-leb, yes-ltb, no-eqb}
 use Rattle.search.proofs.Choose.{choose-yes, choose-no, need-yes}
@@ -16,22 +16,28 @@ use Rattle.endian.specs.Endian.{leAt, leBytes}
 use Rattle.endian.proofs.Laws.{length-leBytes}
 use Rattle.endian.proofs.Stands.{Stands, stands-whole, stands-at, stands-within, stands-first, stands-second, stands-behind, stands-piece, read-fitting, read-first}
 use Rattle.store.specs.Limits.{maxKeys, maxClients, maxCommits, minBytes, maxBytes}
-use Rattle.store.specs.Store.{Client, View, opening, Access, read, write, Operation, Commit, Event, shift, commit}
+use Rattle.store.specs.Store.{Client, View, Configuration, opening, Access, read, write, Operation, Commit, Event, shift, commit}
+use Rattle.store.specs.Update.{step}
 use Rattle.store.specs.View.{FitsView}
 use Rattle.store.proofs.Run.{commitsIn}
 use Rattle.trace.specs.Result.{Result, taken, onTaken}
-use Rattle.trace.specs.Entry.{Entry, shifting, committing, every, eventsOf}
+use Rattle.trace.specs.Entry.{Entry, shifting, committing, every, event, eventsOf}
 use Rattle.trace.specs.Format.{Header, Trace, viewAt, accessOf, operationAt, operationsAt, rankAt, operationFits, operationsFit, whole, shiftLength, shiftAt, commitLength, commitOf, commitAt, recordAt, commitsWith, onRecord, entriesFrom, headerAt, withinLimits, traceOf, decode}
-use Rattle.trace.specs.Encode.{accessNumber, operationBytes, operationsBytes, viewBytes, eventBytes, eventsBytes, fileHead, encode}
-use Rattle.trace.proofs.Sizes.{length-operationBytes, length-operationsBytes, eventLength, length-eventBytes, eventsLength, length-eventsBytes, length-fileHead, length-encode}
+use Rattle.trace.specs.Encode.{accessNumber, operationBytes, operationsBytes, viewBytes, eventBytes, eventsBytes, fileHead, fileOf, encode}
+use Rattle.trace.proofs.Sizes.{length-operationBytes, length-operationsBytes, eventLength, length-eventBytes, length-fileHead, length-fileOf}
 use Rattle.trace.proofs.Tests.{operationFits-is, withinLimits-is}
 use Rattle.trace.specs.WellFormed.{rank, FitsOperation, Rise, FitsShift, FitsCommit, FitsEvent}
 use Rattle.trace.proofs.WellFormed.{accessNumber-le-one, rising-length, FitsEvents, WellFormed}
-use Rattle.trace.proofs.Entries.{inFull, event-inFull, eventsOf-inFull, commitsWith-commitsIn}
+use Rattle.trace.proofs.Entries.{inFull, eventsOf-inFull, length-eventsOf, commitsWith-commitsIn}
 
 -- the header of a trace
-abbrev headerOf : Trace → Header
+abbrev pub headerOf : Trace → Header
 headerOf t = record { keys = t .keys; clients = t .clients; records = length (t .events) }
+
+-- the records that are read from a place on, one by one up to the end of the file
+pub data ReadFrom (s : List ℕ) (h : Header) : ℕ → List Entry → Type 0 where
+  at-end : {at : ℕ} → at ≡ length s → ReadFrom s h at []
+  one-more : {at next : ℕ} {r : Entry} {rs : List Entry} → recordAt s h at ≡ whole r next → ReadFrom s h next rs → ReadFrom s h at (r ∷ rs)
 
 -- ---- views and operations
 
@@ -76,7 +82,7 @@ module _ (s : List ℕ) where
       )
 
   -- all operations
-  operations-back : (os : List Operation) (at keys low : ℕ) → keys ≤ maxKeys → Rise keys low os → Stands s at (operationsBytes os)
+  pub operations-back : (os : List Operation) (at keys low : ℕ) → keys ≤ maxKeys → Rise keys low os → Stands s at (operationsBytes os)
       → (operationsAt s at (length os) ≡ os) × T (operationsFit s at keys low (length os))
   unfolding operationsBytes operationsAt operationsFit
   operations-back [] at keys low few rise h = (refl, tt)
@@ -163,36 +169,40 @@ module _ (s : List ℕ) where
   -- ---- all records
 
   -- the records up to the end of the file
-  events-back : (h : Header) (es : List Event) (at n commits : ℕ) → h .keys ≤ maxKeys → h .clients ≤ maxClients → FitsEvents (h .keys) (h .clients) es
-      → commits + commitsIn es ≤ maxCommits → at + eventsLength (h .keys) es ≡ length s → Stands s at (eventsBytes (h .keys) es)
-      → entriesFrom s h (length es) at n commits ≡ taken (map inFull es)
-  unfolding entriesFrom eventsBytes eventsLength onRecord onTaken
-  events-back h [] at n commits few-keys few-clients fits few ends stands =
-      let done : at ≡ length s = omega arith in
-      need-yes _ _ _ (yes-eqb done)
-  events-back h (e ∷ es) at n commits few-keys few-clients fits few ends stands =
-      let size = eventLength (h .keys) e in
-      let anywhere = opening (h .keys) in
-      let total = commitsWith-commitsIn anywhere (inFull e) es commits ∙ ap (λ (x : Event). commits + commitsIn (x ∷ es)) (event-inFull anywhere e) in
-      let count : commitsWith (inFull e) commits ≤ maxCommits = omega arith in
-      let behind = stands-at (ap (λ k. at + k) (length-eventBytes (h .keys) e)) (stands-second (eventBytes (h .keys) e) (eventsBytes (h .keys) es) stands) in
-      let first = event-back h at e few-keys few-clients (fits .0) (stands-first (eventBytes (h .keys) e) (eventsBytes (h .keys) es) stands) in
-      let others = events-back h es (at + size) (suc n) (commitsWith (inFull e) commits) few-keys few-clients (fits .1) (omega arith) (omega arith) behind in
-      let go-on : Entry → ℕ → ℕ → Result (List Entry) = λ r next c. onTaken (entriesFrom s h (length es) next (suc n) c) (λ rest. taken (r ∷ rest)) in
-      ap (λ r. onRecord r n commits go-on) first
+  events-back : (h : Header) (es : List Event) (at : ℕ) → h .keys ≤ maxKeys → h .clients ≤ maxClients → FitsEvents (h .keys) (h .clients) es
+      → at + length (eventsBytes (h .keys) es) ≡ length s → Stands s at (eventsBytes (h .keys) es) → ReadFrom s h at (map inFull es)
+  unfolding eventsBytes
+  events-back h [] at few-keys few-clients fits ends stands = let done : at ≡ length s = omega arith in at-end done
+  events-back h (e ∷ es) at few-keys few-clients fits ends stands =
+      let size = length-eventBytes (h .keys) e in
+      let sizes = length-append (eventBytes (h .keys) e) (eventsBytes (h .keys) es) in
+      let behind = stands-at (ap (λ k. at + k) size) (stands-second (eventBytes (h .keys) e) (eventsBytes (h .keys) es) stands) in
+      one-more (event-back h at e few-keys few-clients (fits .0) (stands-first (eventBytes (h .keys) e) (eventsBytes (h .keys) es) stands))
+      (events-back h es (at + eventLength (h .keys) e) few-keys few-clients (fits .1) (omega arith) behind)
+
+  -- records that are read one by one are read all, where not too many of them are commits
+  entries-back : (h : Header) (g : Configuration) (at n commits : ℕ) (rs : List Entry) → ReadFrom s h at rs → commits + commitsIn (eventsOf g rs) ≤ maxCommits
+      → entriesFrom s h (length rs) at n commits ≡ taken rs
+  unfolding entriesFrom onRecord onTaken eventsOf
+  entries-back h g at n commits [] (at-end done) few = need-yes _ _ _ (yes-eqb done)
+  entries-back h g at n commits (r ∷ rs) (one-more {next = next} first others) few =
+      let total = commitsWith-commitsIn g r (eventsOf (step g (event g r)) rs) commits in
+      let count : commitsWith r commits ≤ maxCommits = omega arith in
+      let rest = entries-back h (step g (event g r)) next (suc n) (commitsWith r commits) rs others (omega arith) in
+      let go-on : Entry → ℕ → ℕ → Result (List Entry) = λ r next c. onTaken (entriesFrom s h (length rs) next (suc n) c) (λ rest. taken (r ∷ rest)) in
+      ap (λ x. onRecord x n commits go-on) first
       ∙ need-yes _ _ _ (yes-leb count)
-      ∙ ap (λ x. onTaken x (λ rest. taken (inFull e ∷ rest))) others
+      ∙ ap (λ x. onTaken x (λ rest. taken (r ∷ rest))) rest
 
   -- ---- the file
 
   -- what the first twelve bytes say, and that the records stand behind them
-  header-back : (t : Trace) → WellFormed t → length (encode t) ≤ maxBytes → Stands s 0 (encode t)
-      → (leAt s 0 4 ≡ length (encode t)) × (leAt s 4 2 ≡ 8) × (leAt s 6 2 ≡ 1) × (headerAt s ≡ headerOf t) × Stands s minBytes (eventsBytes (t .keys) (t .events))
-  unfolding encode fileHead
-  header-back t w short stands =
-      let size = length-encode t in
-      let body = eventsBytes (t .keys) (t .events) in
-      let body-size = length-eventsBytes (t .keys) (t .events) in
+  header-back : (t : Trace) (body : List ℕ) → WellFormed t → length (fileOf (t .keys) (t .clients) (length (t .events)) body) ≤ maxBytes
+      → Stands s 0 (fileOf (t .keys) (t .clients) (length (t .events)) body)
+      → (leAt s 0 4 ≡ minBytes + length body) × (leAt s 4 2 ≡ 8) × (leAt s 6 2 ≡ 1) × (headerAt s ≡ headerOf t) × Stands s minBytes body
+  unfolding fileHead
+  header-back t body w short stands =
+      let size = length-fileOf (t .keys) (t .clients) (length (t .events)) body in
       let head = fileHead (minBytes + length body) (t .keys) (t .clients) (length (t .events)) in
       let from-start = stands-first head body stands in
       let from-header = stands-behind 4 _ _ 4 refl from-start in
@@ -200,10 +210,12 @@ module _ (s : List ℕ) where
       let from-keys = stands-behind 2 _ _ 8 refl from-kind in
       let from-clients = stands-behind 1 _ _ 9 refl from-keys in
       let from-count = stands-behind 1 _ _ 10 refl from-clients in
+      let few-keys = w .few-keys in
+      let few-clients = w .few-clients in
       let keys = read-first 1 _ _ (omega arith) from-keys in
       let clients = read-first 1 _ _ (omega arith) from-clients in
       let records = read-fitting 2 _ (w .few-records) from-count in (
-        read-first 4 _ _ (omega arith) from-start ∙ omega arith,
+        read-first 4 _ _ (omega arith) from-start,
         read-first 2 _ _ (lit< tt) from-header,
         read-first 2 _ _ (lit< tt) from-kind,
         λ i. record { keys = keys i; clients = clients i; records = records i },
@@ -220,24 +232,40 @@ module _ (s : List ℕ) where
       ∙ ap (λ x. onTaken x (λ rs. taken (traceOf (headerOf t) rs))) entries
       ∙ ap (λ es. taken (record { keys = t .keys; clients = t .clients; events = es })) means
 
-  -- a file that is nothing but the file of the trace
-  file-back : (t : Trace) → WellFormed t → length (encode t) ≤ maxBytes → length s ≡ length (encode t) → Stands s 0 (encode t) → decode s ≡ taken t
+  -- a file that is nothing but the header of the trace and records that mean its events
+  file-back : (t : Trace) (rs : List Entry) (body : List ℕ) → WellFormed t → length s ≤ maxBytes → length s ≡ length (fileOf (t .keys) (t .clients) (length (t .events)) body)
+      → Stands s 0 (fileOf (t .keys) (t .clients) (length (t .events)) body) → eventsOf (opening (t .keys)) rs ≡ t .events
+      → (Stands s minBytes body → ReadFrom s (headerOf t) minBytes rs) → decode s ≡ taken t
   unfolding decode
-  file-back t w short same stands =
-      let size = length-encode t in
-      let (field, header-size, kind, header, from-events) = header-back t w short stands in
+  file-back t rs body w short same stands means reading =
+      let size = length-fileOf (t .keys) (t .clients) (length (t .events)) body in
+      let (field, header-size, kind, header, from-records) = header-back t body w (omega arith) stands in
       let least : minBytes ≤ length s = omega arith in
-      let most : length s ≤ maxBytes = omega arith in
+      let own : leAt s 0 4 ≡ length s = omega arith in
       let limits = withinLimits-is (headerOf t) .1 (w .some-key, w .few-keys, w .some-client, w .few-clients) in
-      let entries = events-back (headerOf t) (t .events) minBytes 1 0 (w .few-keys) (w .few-clients) (w .fitting) (omega arith) (omega arith) from-events in
+      let few : 0 + commitsIn (eventsOf (opening (t .keys)) rs) ≤ maxCommits = rw (zero-add (commitsIn (eventsOf (opening (t .keys)) rs)), means) (w .few-commits) in
+      let entries = entries-back (headerOf t) (opening (t .keys)) minBytes 1 0 rs (reading from-records) few in
+      let counted = sym (length-eventsOf (opening (t .keys)) rs) ∙ ap length means in
       need-yes _ _ _ (yes-leb least)
-      ∙ need-yes _ _ _ (yes-leb most)
-      ∙ need-yes _ _ _ (yes-eqb (field ∙ sym same))
+      ∙ need-yes _ _ _ (yes-leb short)
+      ∙ need-yes _ _ _ (yes-eqb own)
       ∙ need-yes _ _ _ (yes-eqb header-size)
       ∙ need-yes _ _ _ (yes-eqb kind)
       ∙ need-yes _ _ _ (subst (λ h. T (withinLimits h)) (sym header) limits)
-      ∙ trace-back t (map inFull (t .events)) (eventsOf-inFull (opening (t .keys)) (t .events)) header entries
+      ∙ trace-back t rs means header (ap (λ (n : ℕ). entriesFrom s (headerOf t) n minBytes 1 0) (sym counted) ∙ entries)
 
--- the file of a well-formed trace, if it is not too long, reads back as that trace
+-- the file of a header and records, if it is not too long, reads back as the trace whose events the records mean
+pub decode-file : (t : Trace) (rs : List Entry) (body : List ℕ) → WellFormed t → length (fileOf (t .keys) (t .clients) (length (t .events)) body) ≤ maxBytes
+    → eventsOf (opening (t .keys)) rs ≡ t .events
+    → ((s : List ℕ) → minBytes + length body ≡ length s → Stands s minBytes body → ReadFrom s (headerOf t) minBytes rs)
+    → decode (fileOf (t .keys) (t .clients) (length (t .events)) body) ≡ taken t
+decode-file t rs body w short means reading =
+    let s = fileOf (t .keys) (t .clients) (length (t .events)) body in
+    file-back s t rs body w short refl (stands-whole s) means (reading s (sym (length-fileOf (t .keys) (t .clients) (length (t .events)) body)))
+
+-- and so does the file of a well-formed trace that is written in full
 pub decode-encode : (t : Trace) → WellFormed t → length (encode t) ≤ maxBytes → decode (encode t) ≡ taken t
-decode-encode t w short = file-back (encode t) t w short refl (stands-whole (encode t))
+unfolding encode
+decode-encode t w short =
+    decode-file t (map inFull (t .events)) (eventsBytes (t .keys) (t .events)) w short (eventsOf-inFull (opening (t .keys)) (t .events))
+    (λ s ends. events-back s (headerOf t) (t .events) minBytes (w .few-keys) (w .few-clients) (w .fitting) ends)

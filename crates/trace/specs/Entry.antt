@@ -1,6 +1,6 @@
 -- What a record of the trace file says, and what it means where it stands. A record lists masks of its client's view: those of kinds 2
--- and 3 list every key (01, The trace file), and 02 asks for kinds that list fewer and for "one meaning of a record for all four kinds"
--- (E6). The meaning is taken here and nowhere else; store and levels know events alone. Assumes nothing.
+-- and 3 list every key (01, The trace file), those of kinds 5 and 6 some. "State one meaning of a record for all four kinds" (02, E6): it
+-- is taken here and nowhere else; store and levels know events alone. Assumes nothing.
 use mathlib.Core.Option.{Option, some, none}
 use mathlib.Core.List.{List, [], _∷_}
 use Rattle.sets.specs.Set.{Set}
@@ -30,13 +30,17 @@ listedOr none before = before
 unfoldable pub over : View → Listed → View
 over u l k = listedOr (l k) (u k)
 
--- the commit that a record means, where its client's present view is that of the configuration
-abbrev pub commitMeant : Configuration → Client → SessionNumber → List Operation → Listed → Commit
-commitMeant g d n os l = record { client = d; session = n; operations = os; viewAfter = over (g .views d) l }
+-- the view that a record means: the masks that it lists go over its client's view in the configuration
+abbrev pub viewMeant : Configuration → Client → Listed → View
+viewMeant g d l = over (g .views d) l
 
--- what a record means: the masks that it lists go over its client's present view
+-- the commit that it means
+abbrev pub commitMeant : Configuration → Client → SessionNumber → List Operation → Listed → Commit
+commitMeant g d n os l = record { client = d; session = n; operations = os; viewAfter = viewMeant g d l }
+
+-- what a record means, of whichever kind
 unfoldable pub event : Configuration → Entry → Event
-event g (shifting d l) = shift d (over (g .views d) l)
+event g (shifting d l) = shift d (viewMeant g d l)
 event g (committing d n os l) = commit (commitMeant g d n os l)
 
 -- what records mean, "run in turn .. each on what the one before left" (01, The words of demand 3)

@@ -2,11 +2,12 @@
 // of "Bench codes": "4 bytes left, kind 4, rest of 3, then 6, 7".
 ghost use mathlib.Core.Path.{_≡_};
 ghost use mathlib.Core.List.{List};
-ghost use Prim.Native.Nat.{ℕ, _+_, _*_, _≤_, _<_};
+ghost use Prim.Native.Nat.{ℕ, _+_, _*_, _^_, _≤_, _<_};
 ghost use lib.ListN.{length};
 ghost use Rattle.search.specs.Choose.{choose};
 ghost use Rattle.store.specs.Limits.{maxKeys, maxCommits};
-ghost use Rattle.trace.specs.Format.{rankAt, operationFits, operationsFit, shiftAt, commitOf, commitAt, commitsWith};
+ghost use Rattle.trace.specs.Listed.{keysIn};
+ghost use Rattle.trace.specs.Format.{operationsAt, rankAt, operationFits, operationsFit, shiftAt, commitOf, commitAt, shortShiftOf, shortShiftAt, shortCommitOf, shortCommitAt, commitsWith};
 ghost use Rattle.trace.specs.Meaning.{whyNumber, refusalNumber, placeAfter, entryOf, Answers, RecordSays, InFormAt};
 
 // Why a record is refused; whyNumber gives the code.
@@ -17,18 +18,35 @@ pub enum Why {
     Body,
 }
 
-// What stands in a record; `masks` and `operations` are places, counted from the file's start.
+// The masks that a record lists, by rising key from the place `masks` on: of every key (kinds 2 and 3), of the keys in a set (kind 6), or of
+// the keys with one of its operations, which are `count` and stand from a place on (kind 5). Places are counted from the file's start.
+pub enum Listing {
+    Every {
+        masks: usize,
+    },
+    Only {
+        listed: u64,
+        masks: usize,
+    },
+    Touched {
+        operations: usize,
+        count: usize,
+        masks: usize,
+    },
+}
+
+// What stands in a record; `operations` is a place.
 pub enum Record {
     Shift {
         client: usize,
-        masks: usize,
+        listing: Listing,
     },
     Commit {
         client: usize,
         count: usize,
         session: u32,
         operations: usize,
-        masks: usize,
+        listing: Listing,
     },
 }
 
@@ -84,14 +102,14 @@ pub fn commits_with(r: Record, commits: usize) -> usize
     match r {
         Record::Shift {
             client: _,
-            masks: _,
+            listing: _,
         } => commits,
         Record::Commit {
             client: _,
             count: _,
             session: _,
             operations: _,
-            masks: _,
+            listing: _,
         } => commits + 1,
     }
 }
@@ -160,10 +178,8 @@ fn shift_at(s: &[u8], at: usize, keys: usize, clients: usize) -> Reading
     if endian::byte_at(s, at + 5) != 0 {
         return Reading::Refused(Why::Body);
     }
-    let record = Record::Shift {
-        client,
-        masks: at + 6,
-    };
+    let listing = Listing::Every { masks: at + 6 };
+    let record = Record::Shift { client, listing };
     Reading::Whole {
         record,
         next: at + size,
@@ -187,12 +203,15 @@ fn commit_of(s: &[u8], at: usize, keys: usize, clients: usize, m: usize) -> Read
         return Reading::Refused(Why::Client);
     }
     if operations_fit(s, at + 10, keys, m) {
+        let listing = Listing::Every {
+            masks: at + (10 + 8 * m),
+        };
         let record = Record::Commit {
             client,
             count: m,
             session: endian::u32_at(s, at + 6),
             operations: at + 10,
-            masks: at + (10 + 8 * m),
+            listing,
         };
         Reading::Whole {
             record,
@@ -214,6 +233,158 @@ fn commit_at(s: &[u8], at: usize, keys: usize, clients: usize) -> Reading
     commit_of(s, at, keys, clients, endian::byte_at(s, at + 5))
 }
 
+// "kind 6, a shift with a u32 set of changed keys .. and then those masks": what is tested of it once the set is read. "8 for each set bit":
+// also for those at or above the number of keys, which are refused after the client.
+fn short_shift_of(s: &[u8], at: usize, keys: usize, clients: usize, listed: u64) -> Reading
+    requires { ⌜ (at + 10 ≤ length (now s)) × (keys ≤ maxKeys) ⌝ }
+    ensures { λ r. ⌜ Answers (now (s .entry)) keys clients (λ h. shortShiftOf (now (s .entry)) h at listed) r ⌝ }
+{
+    let size = 10 + 8 * sets::size(listed);
+    if endian::u16_at(s, at) as usize != size {
+        return Reading::Refused(Why::Length);
+    }
+    if s.len() < at + size {
+        return Reading::Refused(Why::Length);
+    }
+    let client = endian::byte_at(s, at + 4);
+    if clients <= client {
+        return Reading::Refused(Why::Client);
+    }
+    if endian::byte_at(s, at + 5) != 0 {
+        return Reading::Refused(Why::Body);
+    }
+    if listed >> keys != 0 {
+        return Reading::Refused(Why::Body);
+    }
+    let listing = Listing::Only {
+        listed,
+        masks: at + 10,
+    };
+    let record = Record::Shift { client, listing };
+    Reading::Whole {
+        record,
+        next: at + size,
+    }
+}
+
+// "A set .. beyond the file's end is code 3."
+fn short_shift_at(s: &[u8], at: usize, keys: usize, clients: usize) -> Reading
+    requires { ⌜ (at + 4 ≤ length (now s)) × (keys ≤ maxKeys) ⌝ }
+    ensures { λ r. ⌜ Answers (now (s .entry)) keys clients (λ h. shortShiftAt (now (s .entry)) h at) r ⌝ }
+{
+    if s.len() < at + 10 {
+        return Reading::Refused(Why::Length);
+    }
+    short_shift_of(s, at, keys, clients, endian::u32_at(s, at + 6) as u64)
+}
+
+// How many of the m operations from a place on have a key that "differs from the one before (the first always counts)": no key is 256.
+pub fn keys_in(s: &[u8], start: usize, m: usize) -> usize
+    requires { ⌜ (start + 8 * m ≤ length (now s)) × (m < 256) ⌝ }
+    ensures { λ r. ⌜ (r ≡ keysIn (operationsAt (now (s .entry)) start m)) × (r ≤ m) ⌝ }
+{
+    let mut count: usize = 0;
+    let mut last: usize = 256;
+    let mut at = start;
+    let mut left = m;
+    while 0 < left {
+        let key = endian::byte_at(s, at + 1);
+        if key != last {
+            count = count + 1;
+        }
+        last = key;
+        at = at + 8;
+        left = left - 1;
+    }
+    count
+}
+
+// Where the m operations from a place on fit, one more than the number of their keys; 0 where they do not. One pass over them does both.
+fn keys_fitting(s: &[u8], start: usize, keys: usize, m: usize) -> usize
+    requires { ⌜ (start + 8 * m ≤ length (now s)) × (keys ≤ maxKeys) ⌝ }
+    ensures { λ r. ⌜ (r ≡ choose (operationsFit (now (s .entry)) start keys 0 m) (keysIn (operationsAt (now (s .entry)) start m) + 1) 0) × (r < 256) ⌝ }
+{
+    let mut found: u64 = 0;
+    let mut low: usize = 0;
+    let mut at = start;
+    let mut left = m;
+    while 0 < left {
+        low = low_after(s, at, keys, low);
+        if low == 0 {
+            return 0;
+        }
+        found = sets::insert(found, endian::byte_at(s, at + 1));
+        at = at + 8;
+        left = left - 1;
+    }
+    sets::size(found) + 1
+}
+
+// How many keys the m operations from a place on have, as keys_in counts them, where `fitting` is what keys_fitting answers of them: only those that do
+// not fit are gone over again.
+fn keys_counted(s: &[u8], start: usize, keys: usize, m: usize, fitting: usize) -> usize
+    requires { ⌜ (start + 8 * m ≤ length (now s)) × (m < 256) × (fitting ≡ choose (operationsFit (now s) start keys 0 m) (keysIn (operationsAt (now s) start m) + 1) 0) × (fitting < 256) ⌝ }
+    ensures { λ r. ⌜ (r ≡ keysIn (operationsAt (now (s .entry)) start m)) × (r < 256) ⌝ }
+{
+    if fitting == 0 {
+        return keys_in(s, start, m);
+    }
+    fitting - 1
+}
+
+// "kind 5, a commit whose view after lists only the keys with an operation": one of m operations, which are there.
+fn short_commit_of(s: &[u8], at: usize, keys: usize, clients: usize, m: usize) -> Reading
+    requires { ⌜ (at + (10 + 8 * m) ≤ length (now s)) × (keys ≤ maxKeys) × (m < 256) ⌝ }
+    ensures { λ r. ⌜ Answers (now (s .entry)) keys clients (λ h. shortCommitOf (now (s .entry)) h at m (operationsAt (now (s .entry)) (at + 10) m)) r ⌝ }
+{
+    let fitting = keys_fitting(s, at + 10, keys, m);
+    let size = 10 + 8 * m + 8 * keys_counted(s, at + 10, keys, m, fitting);
+    if endian::u16_at(s, at) as usize != size {
+        return Reading::Refused(Why::Length);
+    }
+    if s.len() < at + size {
+        return Reading::Refused(Why::Length);
+    }
+    let client = endian::byte_at(s, at + 4);
+    if clients <= client {
+        return Reading::Refused(Why::Client);
+    }
+    if fitting == 0 {
+        return Reading::Refused(Why::Body);
+    }
+    let listing = Listing::Touched {
+        operations: at + 10,
+        count: m,
+        masks: at + (10 + 8 * m),
+    };
+    let record = Record::Commit {
+        client,
+        count: m,
+        session: endian::u32_at(s, at + 6),
+        operations: at + 10,
+        listing,
+    };
+    Reading::Whole {
+        record,
+        next: at + size,
+    }
+}
+
+// "an operation's key, beyond the file's end is code 3."
+fn short_commit_at(s: &[u8], at: usize, keys: usize, clients: usize) -> Reading
+    requires { ⌜ (at + 4 ≤ length (now s)) × (keys ≤ maxKeys) ⌝ }
+    ensures { λ r. ⌜ Answers (now (s .entry)) keys clients (λ h. shortCommitAt (now (s .entry)) h at) r ⌝ }
+{
+    if s.len() <= at + 5 {
+        return Reading::Refused(Why::Length);
+    }
+    let m = endian::byte_at(s, at + 5);
+    if s.len() < at + (10 + 8 * m) {
+        return Reading::Refused(Why::Length);
+    }
+    short_commit_of(s, at, keys, clients, m)
+}
+
 // The record at a place of the file.
 pub fn record_at(s: &[u8], at: usize, keys: usize, clients: usize) -> Reading
     requires { ⌜ (at ≤ length (now s)) × (keys ≤ maxKeys) ⌝ }
@@ -229,6 +400,12 @@ pub fn record_at(s: &[u8], at: usize, keys: usize, clients: usize) -> Reading
     if kind == 3 {
         return commit_at(s, at, keys, clients);
     }
+    if kind == 5 {
+        return short_commit_at(s, at, keys, clients);
+    }
+    if kind == 6 {
+        return short_shift_at(s, at, keys, clients);
+    }
     Reading::Refused(Why::Kind)
 }
 
@@ -238,24 +415,54 @@ pub fn known_at(s: &[u8], at: usize, keys: usize) -> Known
     ensures { λ k. ⌜ ((clients : ℕ) → InFormAt (now (s .entry)) at keys clients → RecordSays (now (s .entry)) at keys clients (Reading.Whole (k .record) (k .next))) ⌝ }
 {
     let client = endian::byte_at(s, at + 4);
-    if endian::u16_at(s, at + 2) == 2 {
-        let record = Record::Shift {
-            client,
-            masks: at + 6,
-        };
+    let kind = endian::u16_at(s, at + 2);
+    if kind == 2 {
+        let listing = Listing::Every { masks: at + 6 };
+        let record = Record::Shift { client, listing };
         return Known {
             record,
             next: at + (6 + 8 * keys),
         };
     }
+    if kind == 6 {
+        let listing = Listing::Only {
+            listed: endian::u32_at(s, at + 6) as u64,
+            masks: at + 10,
+        };
+        let record = Record::Shift { client, listing };
+        return Known {
+            record,
+            next: at + endian::u16_at(s, at) as usize,
+        };
+    }
     let m = endian::byte_at(s, at + 5);
     let masks = at + (10 + 8 * m);
+    let session = endian::u32_at(s, at + 6);
+    if kind == 5 {
+        let listing = Listing::Touched {
+            operations: at + 10,
+            count: m,
+            masks,
+        };
+        let record = Record::Commit {
+            client,
+            count: m,
+            session,
+            operations: at + 10,
+            listing,
+        };
+        return Known {
+            record,
+            next: at + endian::u16_at(s, at) as usize,
+        };
+    }
+    let listing = Listing::Every { masks };
     let record = Record::Commit {
         client,
         count: m,
-        session: endian::u32_at(s, at + 6),
+        session,
         operations: at + 10,
-        masks,
+        listing,
     };
     Known {
         record,

@@ -32,7 +32,7 @@ abbrev pub wordsOf : {A : Type 0} → (A → List ℕ) → Result A → List ℕ
 wordsOf found (refused r) = refusalWords r
 wordsOf found (taken a) = 0 ∷ found a
 
--- ---- `replay_file`: the length of the file that was written
+-- ---- `replay_file`, `short_file` and `long_file`: the length of the file that was written
 
 abbrev pub replayWords : Result ℕ → List ℕ
 replayWords r = wordsOf (λ n. n ∷ []) r

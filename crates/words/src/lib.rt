@@ -2,6 +2,7 @@
 // a caller's words and answers its code.
 mod judged; // judged.rt: the words of the ten verdicts
 
+use converting::Conversion;
 use judging::Answer;
 use replaying::Replay;
 use state::Refusal;
@@ -11,6 +12,7 @@ ghost use Prim.Native.Nat.{_≤_};
 ghost use lib.ListN.{length};
 ghost use Rattle.endian.specs.Endian.{putAt};
 ghost use Rattle.state.specs.Answers.{refusalOf};
+ghost use Rattle.converting.specs.Answers.{conversionOf};
 ghost use Rattle.judging.specs.Answers.{answerOf};
 ghost use Rattle.replaying.specs.Answers.{replayOf};
 ghost use Rattle.words.specs.Layout.{refusalLength, refusalWords, replayWords, answerLength, answerWords, codeOf};
@@ -51,6 +53,17 @@ pub fn put_replay(out: &mut [u64], a: Replay) -> u64
             out[1] = size as u64;
             0
         }
+    }
+}
+
+// The answer of `converting::short` and `converting::long`: the words are those of a replay.
+pub fn put_conversion(out: &mut [u64], a: Conversion) -> u64
+    requires { ⌜ refusalLength ≤ length (now out) ⌝ }
+    ensures { λ c. ⌜ (c ≡ codeOf (conversionOf a)) × (now (out .exit) ≡ putAt (now (out .entry)) 0 (replayWords (conversionOf a))) ⌝ }
+{
+    match a {
+        Conversion::Refused(refusal) => put_replay(out, Replay::Refused(refusal)),
+        Conversion::Written(size) => put_replay(out, Replay::Written(size)),
     }
 }
 

@@ -40,7 +40,7 @@ returns c =
     λ g clients fs r number small verdicts.
     let h = begun .begin .ensures g clients _ _ _ _ r small in
     record {
-      answer = refused-early (a .number) g (commitIn (a .file .now) (a .at) (a .n)) _ _ (c .before .first .given .1) (h .answer);
+      answer = refused-early (a .number) g (commitIn g (a .file .now) (a .at) (a .n)) _ _ (c .before .first .given .1) (h .answer);
       small = h .operations .value-fits;
       kept = not-taken _ refl;
     }
@@ -91,7 +91,7 @@ returns-2 c =
     let a = entry begun .args in
     λ g clients fs r number small verdicts.
     let h = begun .begin .ensures g clients _ _ _ _ r small in
-    let k = commitIn (a .file .now) (a .at) (a .n) in
+    let k = commitIn g (a .file .now) (a .at) (a .n) in
     completed .complete .ensures g k clients fs (record {
       recorded = r;
       client-is = refl;

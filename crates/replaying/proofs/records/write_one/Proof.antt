@@ -21,7 +21,7 @@ write-commit-requires c κs =
     let is = c .before .before .before .before .x .given .1 in
     let (r, readable, full) = start .pre .1 in
     let p = subst (Readable (now (start .args .file)) (start .args .n) (r .store .commits)) is readable in
-    ((start .pre .0 .0, start .pre .0 .1, start .pre .0 .2, p .0, rw is at (start .pre .0 .3)), ((p .2, p .3), (r, p .4, full)))
+    ((start .pre .0 .0, start .pre .0 .1, start .pre .0 .2, p .0, rw is at (start .pre .0 .3)), (p .2, (r, p .3, full)))
 
 returns : tie.Need-returns
 returns c =

@@ -31,15 +31,15 @@ enum-known-r-2 c = search needs
 add-next : tie.Need-add-next
 add-next c =
     let commit = c .before in
-    let (below, masks, operations, fit, room) = subst (Readable _ _ _) (commit .r2 .given .1) (before-commit commit .pre .0 .2) in
+    let (below, masks, operations, room) = subst (Readable _ _ _) (commit .r2 .given .1) (before-commit commit .pre .0 .2) in
     record { fits = omega arith }
 
 commit-to-requires : tie.Need-commit-to-requires
 commit-to-requires c κs =
     let commit = c .before .before .before .before .before .before .before .before .before .before .before in
     let p = before-commit commit .pre in
-    let (below, masks, operations, fit, room) = subst (Readable _ _ _) (commit .r2 .given .1) (p .0 .2) in
-    ((p .0 .0, p .0 .1, omega arith, below, masks, operations, fit), p .1)
+    let (below, masks, operations, room) = subst (Readable _ _ _) (commit .r2 .given .1) (p .0 .2) in
+    ((p .0 .0, p .0 .1, omega arith, below, masks, operations), p .1)
 
 same-length : tie.Need-same-length
 same-length c = search needs
@@ -95,9 +95,9 @@ same-length-15 c = search needs
 returns-2 : tie.Need-returns-2
 returns-2 c =
     let commit = c .before .before .before .before .before .before .before .before .before .before .before .before .before .before .before .before .before .before .before .before .before .before .before .before .before .before .before .before .before .before .before .before in
-    let (below, masks, operations, fit, room) = subst (Readable _ _ _) (commit .r2 .given .1) (before-commit commit .pre .0 .2) in
+    let (below, masks, operations, room) = subst (Readable _ _ _) (commit .r2 .given .1) (before-commit commit .pre .0 .2) in
     λ g fs clients f s.
-    commit-one _ _ (record { client = _; count = _; session = _; operations = _; masks = _ }) _ (commit .r2 .given .1) _ _ _ (c .before .before .before .before .before .before .before .before .before .before .before .before .before .before .before .before .before .before .before .before .commit-to .ensures) g fs s room clients f
+    commit-one _ _ (record { client = _; count = _; session = _; operations = _; listing = _ }) _ (commit .r2 .given .1) _ _ _ (c .before .before .before .before .before .before .before .before .before .before .before .before .before .before .before .before .before .before .before .before .commit-to .ensures) g fs s room clients f
 
 pub one-record-spec : {M : Type 1} → statement M
 one-record-spec =

@@ -1,12 +1,18 @@
 -- `shifts::shift::shift_to` meets its contract. Assumes nothing.
+use mathlib.Core.Path.{_≡_}
 use native.Mathlib.Omega.{arith}
-use Rattle.shifts.proofs.Refused.{masks-read}
+use lib.ListN.{length}
+use Rattle.store.specs.Limits.{maxKeys}
+use Rattle.shifts.proofs.Refused.{row-given, masks-filled}
 use borrow.Author.Needs.{needs}
 use Rattle.shifts.proofs.shift.shift_to.Statement.{statement}
 use Rattle.shifts.proofs.shift.shift_to.Tie as tie
 
-masks-into-requires : tie.Need-masks-into-requires
-masks-into-requires c κs = search needs
+mul-fill : tie.Need-mul-fill
+mul-fill c = search needs
+
+fill-requires : tie.Need-fill-requires
+fill-requires c κs = search needs
 
 shift-on-requires : tie.Need-shift-on-requires
 shift-on-requires c κs = search needs
@@ -21,16 +27,22 @@ same-length-3 : tie.Need-same-length-3
 same-length-3 c = search needs
 
 returns : tie.Need-returns
-returns c = (
-  λ g h. c .before .before .before .before .shift-on .ensures .0 g _ h (masks-read _ _ _ _ (omega arith) (c .before .before .before .before .before .before .before .before .before .before .masks-into .ensures .0)),
-  λ g h. c .before .before .before .before .shift-on .ensures .1 g _ h (masks-read _ _ _ _ (omega arith) (c .before .before .before .before .before .before .before .before .before .before .masks-into .ensures .0)),
-)
+returns c =
+    let a = c .before .before .before .before .before .before .before .before .before .before .before .before .before .before .before .before .before .before .before in
+    let put = c .before .before .before .before .before .before .before .before .before .before .fill in
+    let done = c .before .before .before .before .shift-on .ensures in
+    let fresh = put .last .1 .1 .1 .1 .0 in
+    let long : length fresh ≡ maxKeys = omega arith in (
+      λ g h. done .0 g _ h (masks-filled _ _ _ _ fresh long (row-given g _ _ _ _ _ _ _ (a .pre .0 .2) h) (put .ensures .0)),
+      λ g h. done .1 g _ h (masks-filled _ _ _ _ fresh long (row-given g _ _ _ _ _ _ _ (a .pre .0 .2) h) (put .ensures .0)),
+    )
 
 pub shift-to-spec : {M : Type 1} → statement M
 shift-to-spec =
     tie.close
     (tie.spec
-    masks-into-requires
+    mul-fill
+    fill-requires
     shift-on-requires
     same-length
     same-length-2

@@ -2,7 +2,7 @@
 use native.Mathlib.Omega.{arith}
 use Rattle.trace.specs.Format.{shiftAt}
 use Rattle.search.proofs.Steps.{need-met, need-unmet, tests}
-use Rattle.trace.specs.Meaning.{entryOf, readingOf, PlacesFit}
+use Rattle.trace.specs.Meaning.{listingOf, entryOf, readingOf, ListingFits, PlacesFit}
 use borrow.Author.Needs.{needs}
 use Rattle.trace.proofs.records.shift_at.Statement.{statement}
 use Rattle.trace.proofs.records.shift_at.Tie as tie
@@ -20,14 +20,14 @@ cast-if1 : tie.Need-cast-if1
 cast-if1 c = search needs
 
 returns : tie.Need-returns
-unfolding shiftAt entryOf readingOf PlacesFit
+unfolding shiftAt listingOf entryOf readingOf ListingFits PlacesFit
 returns c = (λ n. need-unmet _ _ _ (omega tests), tt)
 
 add-if2 : tie.Need-add-if2
 add-if2 c = search needs
 
 returns-2 : tie.Need-returns-2
-unfolding shiftAt entryOf readingOf PlacesFit
+unfolding shiftAt listingOf entryOf readingOf ListingFits PlacesFit
 returns-2 c = (λ n. need-met _ _ _ (omega tests) (need-unmet _ _ _ (omega tests)), tt)
 
 add-byte-at : tie.Need-add-byte-at
@@ -37,7 +37,7 @@ byte-at-requires : tie.Need-byte-at-requires
 byte-at-requires c κs = search needs
 
 returns-3 : tie.Need-returns-3
-unfolding shiftAt entryOf readingOf PlacesFit
+unfolding shiftAt listingOf entryOf readingOf ListingFits PlacesFit
 returns-3 c = (λ n. need-met _ _ _ (omega tests) (need-met _ _ _ (omega tests) (need-unmet _ _ _ (omega tests))), tt)
 
 add-byte-at-2 : tie.Need-add-byte-at-2
@@ -47,17 +47,17 @@ byte-at-requires-2 : tie.Need-byte-at-requires-2
 byte-at-requires-2 c κs = search needs
 
 returns-4 : tie.Need-returns-4
-unfolding shiftAt entryOf readingOf PlacesFit
+unfolding shiftAt listingOf entryOf readingOf ListingFits PlacesFit
 returns-4 c = (λ n. need-met _ _ _ (omega tests) (need-met _ _ _ (omega tests) (need-met _ _ _ (omega tests) (need-unmet _ _ _ (omega tests)))), tt)
 
-add-t12 : tie.Need-add-t12
-add-t12 c = search needs
+add-t13 : tie.Need-add-t13
+add-t13 c = search needs
 
-add-t8 : tie.Need-add-t8
-add-t8 c = search needs
+add-t9 : tie.Need-add-t9
+add-t9 c = search needs
 
 returns-5 : tie.Need-returns-5
-unfolding shiftAt entryOf readingOf PlacesFit
+unfolding shiftAt listingOf entryOf readingOf ListingFits PlacesFit
 returns-5 c = (λ n. need-met _ _ _ (omega tests) (need-met _ _ _ (omega tests) (need-met _ _ _ (omega tests) (need-met _ _ _ (omega tests) (cc)))), (omega arith, omega arith))
 
 pub shift-at-spec : {M : Type 1} → statement M
@@ -77,6 +77,6 @@ shift-at-spec =
     add-byte-at-2
     byte-at-requires-2
     returns-4
-    add-t12
-    add-t8
+    add-t13
+    add-t9
     returns-5)

@@ -1,0 +1,4 @@
+pub mod EitherEdition
+pub mod Differing
+pub mod Going
+pub mod Answered
