@@ -7,14 +7,15 @@ pub enum Answer {
     Judged(Report),
 }
 
-/// The length of the replay of a trace file, which was written; or a refusal.
+/// The length of the file that was written, the replay of a trace or the trace in
+/// an edition; or a refusal.
 #[derive(Clone, Copy, PartialEq, Eq, Debug)]
 pub enum Replay {
     Refused(Refusal),
     Written(u32),
 }
 
-/// A code from 1 to 18; record, key and version are 0 where not named.
+/// A code, 1 to 18 or 22; record, key and version are 0 where not named.
 #[derive(Clone, Copy, PartialEq, Eq, Debug)]
 pub struct Refusal {
     pub code: u8,

@@ -3,8 +3,9 @@
 use crate::proved::proved;
 use crate::traces::Trace;
 use crate::{Answer, Judge, Refusal, Replay, Session};
+use model::store::Store;
 use model::words::{judge_words, replay_words, JUDGE as WORDS};
-use model::{image, replay, Call};
+use model::{image, replay, Call, Edition};
 
 pub trait Contender {
     fn name(&self) -> &'static str;
@@ -45,6 +46,8 @@ impl Contender for Ordinary {
         match timed.call {
             Call::Judge => self.answer = self.judge.judge(file, buffer),
             Call::Replay => self.replay = self.judge.replay(file, buffer),
+            Call::Short => self.replay = self.judge.convert(Edition::Short, file, buffer),
+            Call::Long => self.replay = self.judge.convert(Edition::Long, file, buffer),
             Call::Port => {
                 self.session.reopen();
                 for piece in file.chunks(timed.at_a_time) {
@@ -58,7 +61,7 @@ impl Contender for Ordinary {
     fn words(&self, call: Call) -> Vec<u64> {
         let mut words = match call {
             Call::Judge | Call::Port => judge_words(&self.answer.into()),
-            Call::Replay => replay_words(&self.replay.into()),
+            Call::Replay | Call::Short | Call::Long => replay_words(&self.replay.into()),
         };
         words.resize(WORDS, 0);
         words
@@ -111,6 +114,19 @@ pub const SMALL_PIECES: Timed = Timed {
     name: "in 64",
     at_a_time: 64,
     ..LARGE_PIECES
+};
+
+pub const SHORT: Timed = Timed {
+    name: "short",
+    call: Call::Short,
+    room: Store::MAX_BYTES,
+    ..JUDGE
+};
+
+pub const LONG: Timed = Timed {
+    name: "long",
+    call: Call::Long,
+    ..SHORT
 };
 
 /// Fails unless every contender answers a call for every trace with the code

@@ -10,7 +10,7 @@ pub const CLIENTS: usize = 16;
 pub const COMMITS: usize = 63;
 /// The most operations a commit has.
 const OPERATIONS: usize = 2 * KEYS;
-const MIN_BYTES: usize = 12;
+pub const MIN_BYTES: usize = 12;
 pub const MAX_BYTES: usize = 65_536;
 
 /// One mask of versions for each key; keys that the trace has not are 0, so
@@ -51,14 +51,38 @@ pub fn header(trace: &[u8]) -> Result<Header, Refusal> {
 pub enum Record<'a> {
     Shift {
         client: usize,
-        masks: &'a [u8],
+        masks: Masks<'a>,
     },
     Commit {
         client: usize,
         session: u32,
         operations: &'a [u8],
-        masks: &'a [u8],
+        masks: Masks<'a>,
     },
+}
+
+/// The masks that a record has: of all keys, or of the keys of a set, rising.
+#[derive(Clone, Copy)]
+pub enum Masks<'a> {
+    All(&'a [u8]),
+    Of(u32, &'a [u8]),
+}
+
+impl Masks<'_> {
+    /// The view that a client is left with, from the one that it had.
+    #[inline(always)]
+    pub fn over<const WIDTH: usize>(&self, view: &Row<WIDTH>, row: &mut Row<WIDTH>) {
+        match *self {
+            Masks::All(bytes) => masks(bytes, row),
+            Masks::Of(mut keys, bytes) => {
+                *row = *view;
+                for bytes in bytes.chunks_exact(8) {
+                    row[keys.trailing_zeros() as usize] = word(bytes);
+                    keys &= keys - 1;
+                }
+            }
+        }
+    }
 }
 
 /// The bytes of the records not read yet.
@@ -83,7 +107,8 @@ impl<'a> Reader<'a> {
     }
 
     /// The next record, or the code that is due for it (3, 4, 6, or 7 for the
-    /// spare byte of a shift; operations are looked at by [`Operations`]).
+    /// spare byte and the set of a shift; operations are looked at by
+    /// [`Operations`], before the masks).
     #[inline(always)]
     pub fn next_record(&mut self) -> Result<Record<'a>, u8> {
         let Some(&[l0, l1, k0, k1]) = self.rest.first_chunk::<4>() else {
@@ -102,7 +127,7 @@ impl<'a> Reader<'a> {
                 }
                 Ok(Record::Shift {
                     client,
-                    masks: &record[6..],
+                    masks: Masks::All(&record[6..]),
                 })
             }
             3 => {
@@ -121,7 +146,48 @@ impl<'a> Reader<'a> {
                     client,
                     session,
                     operations,
-                    masks,
+                    masks: Masks::All(masks),
+                })
+            }
+            5 => {
+                let Some(&count) = self.rest.get(5) else {
+                    return Err(3);
+                };
+                let bytes = 8 * usize::from(count);
+                let Some(operations) = self.rest.get(10..10 + bytes) else {
+                    return Err(3);
+                };
+                let (listed, keys) = turns(operations);
+                if length != 10 + bytes + 8 * listed {
+                    return Err(3);
+                }
+                let record = self.take(length)?;
+                let client = self.client(record[4])?;
+                let session = u32::from_le_bytes([record[6], record[7], record[8], record[9]]);
+                Ok(Record::Commit {
+                    client,
+                    session,
+                    operations,
+                    masks: Masks::Of(keys, &record[10 + bytes..]),
+                })
+            }
+            6 => {
+                let Some(&[s0, s1, s2, s3]) = self.rest.get(6..10).and_then(<[u8]>::first_chunk)
+                else {
+                    return Err(3);
+                };
+                let keys = u32::from_le_bytes([s0, s1, s2, s3]);
+                if length != 10 + 8 * keys.count_ones() as usize {
+                    return Err(3);
+                }
+                let record = self.take(length)?;
+                let client = self.client(record[4])?;
+                if record[5] != 0 || u64::from(keys) >> self.keys != 0 {
+                    return Err(7);
+                }
+                Ok(Record::Shift {
+                    client,
+                    masks: Masks::Of(keys, &record[10..]),
                 })
             }
             _ => Err(4),
@@ -144,6 +210,20 @@ impl<'a> Reader<'a> {
             Err(6)
         }
     }
+}
+
+/// How many operations have another key than the one before them, and the set of
+/// the keys, if the store has them.
+fn turns(operations: &[u8]) -> (usize, u32) {
+    let (mut turns, mut keys) = (0, 0);
+    let mut last = None;
+    for operation in operations.chunks_exact(8) {
+        let key = operation[1];
+        turns += usize::from(last != Some(key));
+        keys |= 1u32.wrapping_shl(key.into());
+        last = Some(key);
+    }
+    (turns, keys)
 }
 
 /// The masks of a record into the places of its keys in a row.

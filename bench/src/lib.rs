@@ -1,6 +1,6 @@
-//! An ordinary fast judge of trace files, which writes replays too and takes
-//! files in pieces, the traces it is timed with, and the proved calls to be timed
-//! beside it.
+//! An ordinary fast judge of trace files, which writes replays and both editions
+//! too and takes files in pieces, the traces it is timed with, and the proved
+//! calls to be timed beside it.
 
 pub mod answer;
 pub mod contender;

@@ -1,17 +1,20 @@
 //! The benchmark: times the ordinary judge, and the proved one beside it if it
 //! is linked in (feature `proved`), round by round on the same traces, over 16
 //! keys and over 32; what of that goes to the arrays; then files that come in
-//! pieces, and the replay, beside the judge. With `--short` it leaves out how the
-//! times grow.
+//! pieces, and the replay, beside the judge; then both editions of the traces.
+//! With `--short` it leaves out how the times grow, and with `--editions` all but
+//! the editions.
 
 use std::hint::black_box;
 use std::time::Instant;
 
 use bench::contender::{
-    check, contenders, Contender, Timed, JUDGE, LARGE_PIECES, REPLAY, SMALL_PIECES, TAKING,
+    check, contenders, Contender, Timed, JUDGE, LARGE_PIECES, LONG, REPLAY, SHORT, SMALL_PIECES,
+    TAKING,
 };
 use bench::form::COMMITS;
-use bench::traces::{asking, describe, timed, Style, Trace, NUMBER};
+use bench::traces::{asking, describe, in_edition, timed, Style, Trace, NUMBER};
+use model::Edition;
 
 /// Numbers of keys of the traces with a table of their own.
 const KEYS: [usize; 2] = [16, 32];
@@ -304,6 +307,62 @@ fn print_asking(contenders: &mut [Box<dyn Contender>]) {
     }
 }
 
+/// The judge on the same traces in both editions, in the same rounds, with how
+/// long the files are; and the calls that write one edition of the other.
+fn print_editions(contenders: &mut [Box<dyn Contender>], keys: usize) {
+    let mut traces = timed(COMMITS, keys);
+    traces.extend(asking(NUMBER / 2, COMMITS, keys));
+    let long = in_edition(&traces, Edition::Long);
+    let short = in_edition(&traces, Edition::Short);
+    println!("\nboth editions, {keys} keys: {}", describe(&traces));
+    let tasks = [
+        (&JUDGE, &long[..]),
+        (&JUDGE, &short[..]),
+        (&SHORT, &long[..]),
+        (&LONG, &short[..]),
+    ];
+    for (timed, traces) in tasks {
+        check(contenders, timed, traces);
+    }
+    let times = time_each(contenders, tasks);
+    print!("{:<12} {:>7} {:>7} {:>7}", "", "long", "short", "of 100");
+    for contender in contenders.iter() {
+        print!(
+            " | {:<10} {:>10} {:>7} {:>7}",
+            contender.name(),
+            "",
+            "long",
+            "short"
+        );
+        print!(" {:>7} {:>8} {:>8}", "ratio", "to short", "to long");
+    }
+    println!();
+    for style in Style::ALL.into_iter().chain(Style::ASKING) {
+        let places: Vec<usize> = (0..traces.len())
+            .filter(|&place| traces[place].style == style)
+            .collect();
+        let mean = |traces: &[Trace]| {
+            let bytes: usize = places.iter().map(|&place| traces[place].bytes.len()).sum();
+            bytes as f64 / places.len() as f64
+        };
+        let [long, short] = [mean(&long), mean(&short)];
+        for way in Way::ALL {
+            print!(
+                "{:<12} {long:>7.0} {short:>7.0} {:>7.1}",
+                style.name(),
+                100.0 * short / long
+            );
+            for which in 0..contenders.len() {
+                let [long, short, to_short, to_long] =
+                    times.each_ref().map(|times| times[which].of(way, &places));
+                print!(" | {:<10} {:>10} {long:>7.2} {short:>7.2}", "", way.name());
+                print!(" {:>7.2} {to_short:>8.2} {to_long:>8.2}", short / long);
+            }
+            println!();
+        }
+    }
+}
+
 /// The time of each contender, and the ratios to the first.
 fn print_row(name: &str, way: Way, times: &[f64]) {
     print!("{name:<12} {:>10}", way.name());
@@ -372,13 +431,23 @@ fn main() {
         println!("the judges take turns in each round, on the same traces and buffer");
     }
 
+    let asked = |word: &str| std::env::args().any(|argument| argument == word);
+    if asked("--editions") {
+        for keys in KEYS {
+            print_editions(&mut contenders, keys);
+        }
+        return;
+    }
     let [long, wide] = KEYS.map(|keys| timed(COMMITS, keys));
     print_judge(&mut contenders, [&long, &wide]);
     print_pieces(&mut contenders, [&long, &wide]);
     drop(wide);
     print_replay(&mut contenders, long);
     print_asking(&mut contenders);
-    if std::env::args().any(|argument| argument == "--short") {
+    for keys in KEYS {
+        print_editions(&mut contenders, keys);
+    }
+    if asked("--short") {
         return;
     }
 

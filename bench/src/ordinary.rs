@@ -13,6 +13,7 @@
 //! Loops over all keys have a fixed length. There are two lengths, each with a
 //! workspace of its own: half of the keys, for a trace that has no more, and all.
 
+mod editions;
 mod replay;
 mod session;
 
@@ -163,7 +164,7 @@ impl<const WIDTH: usize> Workspace<WIDTH> {
                     if fault.is_some() {
                         continue;
                     }
-                    form::masks(masks, &mut self.fresh);
+                    masks.over(&self.clients[client].view, &mut self.fresh);
                     self.shift(client)
                 }
                 Record::Commit {
@@ -182,7 +183,7 @@ impl<const WIDTH: usize> Workspace<WIDTH> {
                     if fault.is_some() {
                         continue;
                     }
-                    form::masks(masks, &mut self.fresh);
+                    masks.over(&self.clients[client].view, &mut self.fresh);
                     self.commit(number, client, session)
                 }
             };

@@ -38,6 +38,8 @@ impl Contender for Proved {
         match timed.call {
             model::Call::Judge => consistency::judge_words(file, buffer, words),
             model::Call::Replay => consistency::replay_words(file, buffer, words),
+            model::Call::Short => consistency::short_words(file, buffer, words),
+            model::Call::Long => consistency::long_words(file, buffer, words),
             model::Call::Port => {
                 let mut record = consistency::SessionRecord::default();
                 for piece in file.chunks(timed.at_a_time) {

@@ -10,6 +10,7 @@
 
 use crate::form::COMMITS;
 use model::random::Random;
+use model::{form, Edition};
 use std::collections::HashMap;
 
 const CLIENTS: usize = 16;
@@ -88,6 +89,15 @@ pub fn traces(seed: u64, number: usize, commits: usize, keys: usize) -> Vec<Trac
             Maker::new(Random::seeded(random.word()), Style::of(number), keys).trace(commits)
         })
         .collect()
+}
+
+/// The same traces in an edition.
+pub fn in_edition(traces: &[Trace], edition: Edition) -> Vec<Trace> {
+    let written = traces.iter().map(|trace| Trace {
+        bytes: edition.file(&form::read(&trace.bytes).expect("a trace in form")),
+        ..*trace
+    });
+    written.collect()
 }
 
 /// A trace in the making, with the store that it has made so far.

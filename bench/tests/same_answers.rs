@@ -2,12 +2,14 @@
 //! same bytes in the lent buffer, of each call.
 
 use bench::form::COMMITS;
-use bench::traces::{asking, describe, timed, traces, Trace};
+use bench::traces::{asking, describe, in_edition, timed, traces, Trace};
 use bench::{Judge, Session};
 use model::buffer::{pattern, untouched, LONG};
 use model::facts::accepts;
+use model::generate::growing_case;
 use model::met::Met;
-use model::{outcome, Answer, Call, Outcome, Replay, Verdict};
+use model::random::Random;
+use model::{outcome, Answer, Call, Conversion, Edition, Outcome, Replay, Verdict};
 use std::collections::BTreeMap;
 
 /// A call on one file, of which the model says this, with a buffer of this
@@ -41,6 +43,16 @@ fn compare(
         Call::Replay => {
             let answer = Replay::from(judge.replay(bytes, &mut buffer));
             assert_eq!(answer, model::replayed(outcome, &mut due), "{name}");
+            answer.code()
+        }
+        Call::Short | Call::Long => {
+            let edition = match call {
+                Call::Short => Edition::Short,
+                _ => Edition::Long,
+            };
+            let answer = Conversion::from(judge.convert(edition, bytes, &mut buffer));
+            let due = model::written_in(edition, outcome, &mut due);
+            assert_eq!(answer, due, "{name}");
             answer.code()
         }
     };
@@ -133,6 +145,40 @@ fn timed_traces() {
     }
 }
 
+/// The same in the short edition: taken, with the same verdicts and image, and
+/// written long again they are what they were. Files that grow past the limit.
+#[test]
+fn both_editions() {
+    let mut judge = Judge::new();
+    for (commits, keys) in [
+        (0, 1),
+        (5, 1),
+        (8, 17),
+        (16, 32),
+        (63, 2),
+        (63, 16),
+        (63, 32),
+    ] {
+        let long = traces(7, 10, commits, keys);
+        let short = in_edition(&long, Edition::Short);
+        for (number, (long, short)) in long.iter().zip(&short).enumerate() {
+            let name = format!("{commits} commits, {keys} keys, short trace {number}");
+            compare_all(&mut judge, &short.bytes, &name);
+            let (mut image, mut again) = (pattern(LONG), pattern(LONG));
+            let answer = judge.judge(&long.bytes, &mut image);
+            assert_eq!(judge.judge(&short.bytes, &mut again), answer, "{name}");
+            assert!(again == image, "{name}: another image");
+            let mut back = vec![0; long.bytes.len()];
+            judge.convert(Edition::Long, &short.bytes, &mut back);
+            assert!(back == long.bytes, "{name}: another long file");
+        }
+    }
+    for seed in 0..24 {
+        let case = growing_case(&mut Random::seeded(seed));
+        compare_all(&mut judge, &case.bytes, &format!("growing {seed}"));
+    }
+}
+
 /// The traces that are timed are the ones that the figures are of, and there is
 /// something to tell of each level.
 #[test]
@@ -178,7 +224,9 @@ fn refusing(traces: &[Trace]) -> [usize; 10] {
 #[cfg(feature = "proved")]
 #[test]
 fn proved_calls_on_timed_traces() {
-    use bench::contender::{check, contenders, JUDGE, LARGE_PIECES, REPLAY, SMALL_PIECES, TAKING};
+    use bench::contender::{
+        check, contenders, JUDGE, LARGE_PIECES, LONG, REPLAY, SHORT, SMALL_PIECES, TAKING,
+    };
     use bench::traces::Style;
     let mut contenders = contenders();
     assert_eq!(contenders.len(), 2, "they are linked in");
@@ -186,6 +234,10 @@ fn proved_calls_on_timed_traces() {
     for keys in [16, 32] {
         let mut traces = timed(COMMITS, keys);
         check(&mut contenders, &JUDGE, &traces);
+        check(&mut contenders, &SHORT, &traces);
+        let short = in_edition(&traces, Edition::Short);
+        check(&mut contenders, &JUDGE, &short);
+        check(&mut contenders, &LONG, &short);
         check(&mut contenders, &LARGE_PIECES, &traces);
         check(&mut contenders, &SMALL_PIECES, &traces);
         traces.retain(|trace| trace.style == Style::Serial);
@@ -202,7 +254,9 @@ fn spoiled_traces() {
     let mut codes: BTreeMap<u8, usize> = BTreeMap::new();
     let sizes = [(60, 12, 5), (40, 12, 20), (40, 63, 2), (10, 63, 4)];
     for (number, commits, keys) in sizes {
-        for (number, trace) in traces(11, number, commits, keys).iter().enumerate() {
+        let long = traces(11, number, commits, keys);
+        let short = in_edition(&long, Edition::Short);
+        for (number, trace) in long.iter().chain(&short).enumerate() {
             let mut bytes = trace.bytes.clone();
             for change in 0..40 {
                 let place = (number * 7919 + change * 104_729) % bytes.len();

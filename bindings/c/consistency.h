@@ -3,8 +3,8 @@
  *     rt staticlib consistency
  *     cc -I bindings/c YOUR.c target/staticlib/libconsistency.a
  *
- * crates/consistency/src/lib.rt says what is proved of each call. docs/FORMAT.md has the trace file, the image, the replay and the
- * report, and the tables below in their long form: what to do about each code, and an example for each clause.
+ * crates/consistency/src/lib.rt says what is proved of each call. docs/FORMAT.md has the trace file, its two editions, the image, the
+ * replay and the report, and the tables below in their long form: what to do about each code, and an example for each clause.
  *
  * All places that a call is lent stay the caller's, who has them to read (`const`) and to write (the others) for as many elements
  * as the lengths say; they do not overlap, and none is null. A length may be 0, and any bytes may stand in a file. A file is never
@@ -23,7 +23,7 @@
 extern "C" {
 #endif
 
-/* The most bytes that a trace file may have; a longer one is code 1. */
+/* The most bytes that a trace file may have; a longer one is code 1, and none is written. */
 #define CONSISTENCY_LONGEST_FILE 65536
 /* No image is longer; a buffer of this length is never too short. */
 #define CONSISTENCY_LONGEST_IMAGE 33408
@@ -51,7 +51,7 @@ extern "C" {
  *        4 | a record has a kind that is not in the format                           | record
  *        5 | bytes are left after the records that the header counts                 | the last record
  *        6 | a record has a client that is not in the header                         | record
- *        7 | a spare byte is not zero, or an operation's kind, key or order is wrong | record
+ *        7 | a spare byte, a set, or an operation's kind, key or order is wrong      | record
  *        8 | there is a 64th commit                                                  | record
  *        9 | a client's session number does not rise                                 | record
  *       10 | a view lacks version 0 or holds a version that does not exist           | record, least key
@@ -63,6 +63,7 @@ extern "C" {
  *       16 | SER does not accept the trace, so that it has no replay                 | record, key and version of SER's verdict
  *       17 | the file buffer is shorter than the file, or than the pieces that came  |
  *       18 | the session is closed                                                   |
+ *       22 | the file that is to be written has more than 65,536 bytes               |
  *
  * A call gives these and no others:
  *
@@ -70,6 +71,8 @@ extern "C" {
  *     --------------|-------------------------------------
  *     judge_file    | 1 to 14, then 15
  *     replay_file   | 1 to 14, then 16, then 17
+ *     short_file    | 1 to 14, then 22, then 17
+ *     long_file     | 1 to 14, then 22, then 17
  *     push_piece    | 18
  *     close_session | 18, then 17, then 1 to 14, then 15
  *
@@ -153,6 +156,27 @@ uint64_t replay_file(const uint8_t *file, size_t file_length,
 
 #define CONSISTENCY_REPLAY_WORDS 5
 #define CONSISTENCY_REPLAY_STACK 65536
+
+/* Write the trace in the first `file_length` bytes at `file` in its short edition, where each shift has masks for the keys that change alone and
+ * each commit has masks for the keys that have an operation; or in its long edition, where each record has masks for all keys. `judge_file` gives
+ * the written file the answer and the image that it gives the one that was read. No buffer need be longer than CONSISTENCY_LONGEST_FILE.
+ *
+ * Code 0: the file stands at the start of `buffer`, and two words are written:
+ *
+ *     0       1
+ *     0       length of the file
+ *
+ * A refusal writes no byte of `buffer`. Where `words` has less than CONSISTENCY_CONVERSION_WORDS, the code is 255. */
+uint64_t short_file(const uint8_t *file, size_t file_length,
+                    uint8_t *buffer, size_t buffer_length,
+                    uint64_t *words, size_t words_length);
+
+uint64_t long_file(const uint8_t *file, size_t file_length,
+                   uint8_t *buffer, size_t buffer_length,
+                   uint64_t *words, size_t words_length);
+
+#define CONSISTENCY_CONVERSION_WORDS 5
+#define CONSISTENCY_CONVERSION_STACK 65536
 
 /* Judges the trace file as `judge_file` does and writes the report, text with a line feed at the end of each line and no 0 byte, at the
  * start of `text`. Answers the length of the report. Where `text` has less than CONSISTENCY_LONGEST_REPORT bytes nothing is judged or

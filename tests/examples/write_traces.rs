@@ -1,9 +1,10 @@
 //! Writes the example traces, and what the programs must print for them,
 //! to where the repository keeps them: `examples/` and `crates/`.
 
-use model::example_traces::{trace_b, trace_e};
-use model::files::{arguments, at, files, printed, replay_of, report_of};
+use model::example_traces::{trace_b, trace_c, trace_e};
+use model::files::{arguments, at, files, printed, replay_of, report_of, written_of};
 use model::trace::encode;
+use model::Call;
 use std::fs;
 
 fn main() -> std::io::Result<()> {
@@ -23,5 +24,11 @@ fn main() -> std::io::Result<()> {
     }
     let e = encode(&trace_e());
     fs::write(at("crates/replay/stdin"), &e)?;
-    fs::write(at("crates/replay/stdout"), replay_of(&e))
+    fs::write(at("crates/replay/stdout"), replay_of(&e))?;
+    let c = encode(&trace_c());
+    let short = written_of(Call::Short, &c);
+    fs::write(at("crates/short/stdin"), &c)?;
+    fs::write(at("crates/short/stdout"), &short)?;
+    fs::write(at("crates/long/stdin"), &short)?;
+    fs::write(at("crates/long/stdout"), &c)
 }

@@ -5,11 +5,13 @@ use crate::buffer::{pattern, UNTOUCHED};
 use crate::generate::pieces;
 use crate::port::{Port, Record, CLOSED};
 use crate::random::Random;
-use crate::{answer, replayed, Answer, Call, Outcome, Replay, Verdict};
+use crate::{
+    answer, replayed, written_in, Answer, Call, Conversion, Edition, Outcome, Replay, Verdict,
+};
 use consistency::{
-    close_session, judge, judge_words, open_session, push_piece, replay, replay_words,
-    report_session, Key, Refusal, Session, SessionRecord, Verdicts, VersionNumber, JUDGE_WORDS,
-    LONGEST_FILE, REPLAY_WORDS,
+    close_session, judge, judge_words, long_words, open_session, push_piece, replay, replay_words,
+    report_session, short_words, Key, Refusal, Session, SessionRecord, Verdicts, VersionNumber,
+    CONVERSION_WORDS, JUDGE_WORDS, LONGEST_FILE, REPLAY_WORDS,
 };
 
 /// Words behind those of an answer, which must not be touched.
@@ -23,6 +25,8 @@ pub fn in_words(call: Call) -> (InWords, usize) {
     match call {
         Call::Judge => (judge_words, JUDGE_WORDS),
         Call::Replay => (replay_words, REPLAY_WORDS),
+        Call::Short => (short_words, CONVERSION_WORDS),
+        Call::Long => (long_words, CONVERSION_WORDS),
         Call::Port => (port_words, JUDGE_WORDS),
     }
 }
@@ -125,6 +129,16 @@ pub fn compare(call: Call, name: &str, file: &[u8], outcome: &Outcome, length: u
             let due = replayed(outcome, &mut pattern(length));
             assert_eq!(replay(file, &mut bytes), told_replay(&due), "{name}");
         }
+        Call::Short => {
+            let due = written_in(Edition::Short, outcome, &mut pattern(length));
+            let told = consistency::short(file, &mut bytes);
+            assert_eq!(told, told_conversion(&due), "{name}");
+        }
+        Call::Long => {
+            let due = written_in(Edition::Long, outcome, &mut pattern(length));
+            let told = consistency::long(file, &mut bytes);
+            assert_eq!(told, told_conversion(&due), "{name}");
+        }
         Call::Port => {
             let due = answer(outcome, &mut pattern(length));
             assert_eq!(port(file, &mut bytes), told_answer(&due), "{name}");
@@ -177,6 +191,13 @@ fn told_replay(answer: &Replay) -> consistency::Replay {
     match *answer {
         Replay::Refused(refusal) => consistency::Replay::Refused(told_refusal(&refusal)),
         Replay::Written(length) => consistency::Replay::Written(length),
+    }
+}
+
+fn told_conversion(answer: &Conversion) -> consistency::Conversion {
+    match *answer {
+        Conversion::Refused(refusal) => consistency::Conversion::Refused(told_refusal(&refusal)),
+        Conversion::Written(length) => consistency::Conversion::Written(length),
     }
 }
 

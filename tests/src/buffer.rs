@@ -1,12 +1,13 @@
 //! Lent buffers, with something in them beforehand that shows what is written.
 
-use crate::{image, replay};
+use crate::image;
+use crate::store::Store;
 
 /// More than any image needs.
 pub const LONG: usize = image::LONGEST + 40;
 
-/// More than any replay needs.
-pub const LONG_FILE: usize = replay::LONGEST + 40;
+/// More than any file needs that is written.
+pub const LONG_FILE: usize = Store::MAX_BYTES + 40;
 
 /// What words have in them.
 pub const UNTOUCHED: u64 = 0x5A5A_A5A5_5A5A_A5A5;

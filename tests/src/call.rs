@@ -3,8 +3,9 @@
 //! are one here: it is opened, all pieces are pushed, it is closed.
 
 use crate::buffer::{LONG, LONG_FILE};
+use crate::store::Store;
 use crate::words::{judge_words, replay_words};
-use crate::{answer, image, replay, replayed, Outcome};
+use crate::{answer, image, replay, replayed, written_in, Edition, Outcome};
 
 #[derive(Clone, Copy, PartialEq, Eq, PartialOrd, Ord, Debug)]
 pub enum Call {
@@ -12,17 +13,29 @@ pub enum Call {
     Judge,
     /// The replay.
     Replay,
+    /// The trace in its short edition.
+    Short,
+    /// The trace in its long edition.
+    Long,
     /// Ten verdicts, and the image, of a file that comes in pieces.
     Port,
 }
 
 impl Call {
-    pub const ALL: [Call; 3] = [Call::Judge, Call::Replay, Call::Port];
+    pub const ALL: [Call; 5] = [
+        Call::Judge,
+        Call::Replay,
+        Call::Short,
+        Call::Long,
+        Call::Port,
+    ];
 
     pub fn name(self) -> &'static str {
         match self {
             Call::Judge => "judge",
             Call::Replay => "replay",
+            Call::Short => "short",
+            Call::Long => "long",
             Call::Port => "port",
         }
     }
@@ -34,6 +47,7 @@ impl Call {
         match self {
             Call::Judge | Call::Port => &[15],
             Call::Replay => &[16, 17],
+            Call::Short | Call::Long => &[22, 17],
         }
     }
 
@@ -42,6 +56,7 @@ impl Call {
         match self {
             Call::Judge | Call::Port => image::LONGEST,
             Call::Replay => replay::LONGEST,
+            Call::Short | Call::Long => Store::MAX_BYTES,
         }
     }
 
@@ -49,7 +64,7 @@ impl Call {
     pub fn long(self) -> usize {
         match self {
             Call::Judge | Call::Port => LONG,
-            Call::Replay => LONG_FILE,
+            Call::Replay | Call::Short | Call::Long => LONG_FILE,
         }
     }
 
@@ -60,6 +75,8 @@ impl Call {
         match self {
             Call::Judge | Call::Port => Some(&taken.image),
             Call::Replay => taken.replay.as_deref().ok(),
+            Call::Short => taken.short.as_deref().ok(),
+            Call::Long => taken.long.as_deref().ok(),
         }
     }
 
@@ -69,6 +86,8 @@ impl Call {
         match self {
             Call::Judge | Call::Port => judge_words(&answer(outcome, buffer)),
             Call::Replay => replay_words(&replayed(outcome, buffer)),
+            Call::Short => replay_words(&written_in(Edition::Short, outcome, buffer)),
+            Call::Long => replay_words(&written_in(Edition::Long, outcome, buffer)),
         }
     }
 }

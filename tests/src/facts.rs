@@ -1,6 +1,10 @@
 //! Section "The words of demand 3": the facts that hold of every taken trace,
 //! as functions to test with. Each answers what it found false.
 
+mod editions;
+
+pub use editions::editions_hold;
+
 use crate::levels::place_of;
 use crate::relations::{
     dependencies, has_loop, one_or_more, rw, so, then_maybe, union, wr, ww, Relation,

@@ -54,9 +54,14 @@ pub fn at(path: &str) -> PathBuf {
 
 /// The replay of one file that has one.
 pub fn replay_of(file: &[u8]) -> Vec<u8> {
+    written_of(Call::Replay, file)
+}
+
+/// What a call writes of one file that it does not refuse.
+pub fn written_of(call: Call, file: &[u8]) -> Vec<u8> {
     let outcome = outcome(file);
-    let written = Call::Replay.written(&outcome);
-    written.expect("a trace that SER accepts").to_vec()
+    let written = call.written(&outcome);
+    written.expect("a file that is not refused").to_vec()
 }
 
 /// The report of one file, with an image buffer that is long enough.

@@ -3,16 +3,18 @@
 //! It answers the call that section "The work to build and its rules" asks
 //! for: one trace file in a lent slice, one store image into a second lent
 //! slice, and either ten verdicts or one refusal (section "Bench codes"); and
-//! the call of request E1, which writes the replay of a trace into a lent file
-//! buffer; and the calls of request E5, by which a trace file comes in pieces.
-//! Everything is sets, maps and lists, as near to the wording of the paper as it
-//! goes. It is slow on purpose: it is there to be compared with.
+//! the calls of requests E1 and E6, which write the replay of a trace, or the
+//! trace in its short or long edition, into a lent file buffer; and the calls of
+//! request E5, by which a trace file comes in pieces. Everything is sets, maps
+//! and lists, as near to the wording of the paper as it goes. It is slow on
+//! purpose: it is there to be compared with.
 
 #[cfg(feature = "proved")]
 pub mod beside;
 pub mod buffer;
 pub mod by_hand;
 pub mod call;
+pub mod editions;
 pub mod example_traces;
 pub mod facts;
 pub mod files;
@@ -35,6 +37,7 @@ pub mod trace;
 pub mod words;
 
 pub use call::Call;
+pub use editions::{Conversion, Edition};
 pub use replay::Replay;
 pub use text::report;
 
@@ -58,7 +61,7 @@ impl Answer {
     }
 }
 
-/// One code from 1 to 18 with what it names; 0 where it names nothing.
+/// One code, 1 to 18 or 22, with what it names; 0 where it names nothing.
 #[derive(Clone, Copy, PartialEq, Eq, PartialOrd, Ord, Debug)]
 pub struct Refusal {
     pub code: u8,
@@ -119,18 +122,38 @@ pub fn replay(trace: &[u8], buffer: &mut [u8]) -> Replay {
     replayed(&outcome(trace), buffer)
 }
 
+/// Writes a trace file in an edition. With a refusal no byte of `buffer`
+/// changes; otherwise the file stands at its start and the bytes after it are
+/// as before.
+pub fn convert(edition: Edition, trace: &[u8], buffer: &mut [u8]) -> Conversion {
+    written_in(edition, &outcome(trace), buffer)
+}
+
 /// What a file comes to before any buffer is looked at: one of the codes 1 to
 /// 14, or a taken trace.
 pub type Outcome = Result<Taken, Refusal>;
 
-/// A taken trace: its report, its final store and the image of that; and its
-/// replay as a file, or code 16.
+/// A taken trace: its report, its final store and the image of that; its replay
+/// as a file, or code 16; and the trace itself as a short file and as a long
+/// one, or code 22.
 #[derive(Clone, Debug)]
 pub struct Taken {
     pub report: Report,
     pub store: Store,
     pub image: Vec<u8>,
     pub replay: Result<Vec<u8>, Refusal>,
+    pub short: Result<Vec<u8>, Refusal>,
+    pub long: Result<Vec<u8>, Refusal>,
+}
+
+impl Taken {
+    /// The trace as a file of an edition.
+    pub fn converted(&self, edition: Edition) -> &Result<Vec<u8>, Refusal> {
+        match edition {
+            Edition::Short => &self.short,
+            Edition::Long => &self.long,
+        }
+    }
 }
 
 /// The order of the codes: form (1 to 8), then meaning (9 to 14).
@@ -147,6 +170,8 @@ pub fn outcome(file: &[u8]) -> Outcome {
     let ser = &report.verdicts[levels::place_of("SER")];
     Ok(Taken {
         replay: replay::replay_file(&trace, &run, ser),
+        short: editions::converted(&trace, Edition::Short),
+        long: editions::converted(&trace, Edition::Long),
         report,
         store: run.store,
         image,
@@ -168,6 +193,14 @@ pub fn replayed(outcome: &Outcome, buffer: &mut [u8]) -> Replay {
     match outcome {
         Err(refusal) => Replay::Refused(*refusal),
         Ok(taken) => replay::write(&taken.replay, buffer),
+    }
+}
+
+/// The same for the trace in an edition: "a refused file keeps its code".
+pub fn written_in(edition: Edition, outcome: &Outcome, buffer: &mut [u8]) -> Conversion {
+    match outcome {
+        Err(refusal) => Conversion::Refused(*refusal),
+        Ok(taken) => replay::write(taken.converted(edition), buffer),
     }
 }
 

@@ -1,6 +1,8 @@
 //! What a run over many files met, counted: to be printed, and to fail where
 //! something was never met.
 
+mod editions;
+
 use crate::facts;
 use crate::generate::{case, record_places, Case, FORMER_KEYS, KINDS};
 use crate::levels::{place_of, LEVELS};
@@ -34,6 +36,7 @@ pub struct Met {
     /// The longest of these files, and of what each call writes of them.
     longest_file: usize,
     longest_written: BTreeMap<Call, usize>,
+    editions: editions::Editions,
 }
 
 impl Met {
@@ -48,6 +51,7 @@ impl Met {
             let case = case(seed);
             let outcome = outcome(&case.bytes);
             met.file(&case);
+            met.editions.file(&case, &outcome);
             met.header(&case.bytes, outcome.is_ok());
             if let Ok(taken) = &outcome {
                 met.taken(&case.bytes, taken);
@@ -147,6 +151,7 @@ impl Met {
             let longest = self.longest_written.entry(call).or_default();
             *longest = length.max(*longest);
         }
+        self.editions.add(other.editions);
     }
 
     pub fn print(&self) {
@@ -190,6 +195,7 @@ impl Met {
         for (call, length) in &self.longest_written {
             println!("longest that {} writes: {length}", call.name());
         }
+        self.editions.print();
     }
 
     /// How many different records, keys and versions code 16 names.
@@ -241,6 +247,7 @@ impl Met {
         for call in Call::ALL {
             assert_eq!(self.longest_written[&call], call.longest(), "{call:?}");
         }
+        self.editions.lacks_nothing();
     }
 
     /// Every number of keys that a trace may have is met, and the first that it
@@ -268,7 +275,7 @@ impl Met {
 fn most_operations(file: &[u8]) -> usize {
     let commits = record_places(file)
         .into_iter()
-        .filter(|&place| file.get(place + 2) == Some(&3));
+        .filter(|&place| matches!(file.get(place + 2), Some(3 | 5)));
     commits
         .map(|place| file[place + 5].into())
         .max()

@@ -2,7 +2,7 @@
 
 use crate::files::at;
 use crate::text::{refused, report};
-use crate::{answer, replayed, Call, Outcome, Replay};
+use crate::{answer, replayed, written_in, Call, Edition, Outcome, Replay};
 use std::io::{ErrorKind, Write};
 use std::path::PathBuf;
 use std::process::{Command, Output, Stdio};
@@ -23,18 +23,21 @@ pub fn program(call: Call) -> PathBuf {
 }
 
 /// What the program of a call has to say of a file that comes to this: `judge`
-/// and `port` print a report, `replay` writes a file or tells a refusal.
+/// and `port` print a report, the others write a file or tell a refusal.
 pub fn due(call: Call, outcome: &Outcome) -> Said {
     let mut buffer = vec![0; call.longest()];
-    match call {
+    let written = match call {
         Call::Judge | Call::Port => {
             let text = report(&answer(outcome, &mut buffer));
-            (text.into_bytes(), String::new())
+            return (text.into_bytes(), String::new());
         }
-        Call::Replay => match replayed(outcome, &mut buffer) {
-            Replay::Refused(refusal) => (Vec::new(), refused(&refusal)),
-            Replay::Written(length) => (buffer[..length].to_vec(), String::new()),
-        },
+        Call::Replay => replayed(outcome, &mut buffer),
+        Call::Short => written_in(Edition::Short, outcome, &mut buffer),
+        Call::Long => written_in(Edition::Long, outcome, &mut buffer),
+    };
+    match written {
+        Replay::Refused(refusal) => (Vec::new(), refused(&refusal)),
+        Replay::Written(length) => (buffer[..length].to_vec(), String::new()),
     }
 }
 

@@ -51,9 +51,10 @@ pub fn replay_file(trace: &Trace, run: &Run, ser: &Verdict) -> Result<Vec<u8>, R
     }
 }
 
-/// What a lent file buffer gets; 17 is "checked after 16".
-pub fn write(replay: &Result<Vec<u8>, Refusal>, buffer: &mut [u8]) -> Replay {
-    match replay {
+/// What a lent file buffer gets, of the replay or of an edition; 17 is "checked
+/// after 16", and "22, then a short buffer 17".
+pub fn write(file: &Result<Vec<u8>, Refusal>, buffer: &mut [u8]) -> Replay {
+    match file {
         Err(refusal) => Replay::Refused(*refusal),
         Ok(file) if !put(file, buffer) => Replay::Refused(Refusal::at(17, 0)),
         Ok(file) => Replay::Written(file.len()),

@@ -1,6 +1,7 @@
-//! Section "The trace file": the trace as data, and its encoding to bytes.
+//! Section "The trace file": the trace as data, and its encoding to bytes in
+//! kinds 2 and 3; kinds 5 and 6 are in `editions.rs`.
 
-use crate::store::{Key, View};
+use crate::store::{Key, Store, View};
 
 /// A read stands before a write of the same key.
 #[derive(Clone, Copy, PartialEq, Eq, PartialOrd, Ord, Debug)]
@@ -16,7 +17,8 @@ pub struct Operation {
     pub value: u32,
 }
 
-/// Kind 2 and kind 3. A view here is what the masks say, good or not.
+/// What a record means, of whatever kind. A view here is what the masks say,
+/// good or not.
 #[derive(Clone, PartialEq, Eq, Debug)]
 pub enum Record {
     Shift {
@@ -39,13 +41,18 @@ pub struct Trace {
     pub records: Vec<Record>,
 }
 
-/// The whole file of a trace.
+/// The whole file of a trace, in kinds 2 and 3.
 pub fn encode(trace: &Trace) -> Vec<u8> {
+    let records = trace.records.iter();
+    let long = records.map(|record| record_bytes(record, trace.keys));
+    file_of(trace, long.collect())
+}
+
+/// A file with the header of a trace and these records.
+pub fn file_of(trace: &Trace, records: Vec<Vec<u8>>) -> Vec<u8> {
     let mut file = vec![0; 4];
     file.extend(header_bytes(trace));
-    for record in &trace.records {
-        file.extend(record_bytes(record, trace.keys));
-    }
+    file.extend(records.concat());
     with_true_length(file)
 }
 
@@ -72,8 +79,8 @@ pub fn record_bytes(record: &Record, keys: usize) -> Vec<u8> {
     let (kind, body) = match record {
         Record::Shift { client, view } => {
             let mut body = vec![*client as u8, 0];
-            body.extend(mask_bytes(view, keys));
-            (2u16, body)
+            body.extend(masks_bytes(view, keys));
+            (2, body)
         }
         Record::Commit {
             client,
@@ -86,17 +93,22 @@ pub fn record_bytes(record: &Record, keys: usize) -> Vec<u8> {
             for operation in operations {
                 body.extend(operation_bytes(operation));
             }
-            body.extend(mask_bytes(after, keys));
-            (3u16, body)
+            body.extend(masks_bytes(after, keys));
+            (3, body)
         }
     };
+    with_length(kind, body)
+}
+
+/// A record of a kind, its length before it.
+pub fn with_length(kind: u16, body: Vec<u8>) -> Vec<u8> {
     let mut bytes = ((body.len() + 4) as u16).to_le_bytes().to_vec();
     bytes.extend(kind.to_le_bytes());
     bytes.extend(body);
     bytes
 }
 
-fn operation_bytes(operation: &Operation) -> Vec<u8> {
+pub fn operation_bytes(operation: &Operation) -> Vec<u8> {
     let kind = match operation.kind {
         OperationKind::Read => 0,
         OperationKind::Write => 1,
@@ -116,11 +128,17 @@ pub const fn commit_len(operations: usize, keys: usize) -> usize {
     10 + 8 * operations + 8 * keys
 }
 
-/// One mask for each key; bit i stands for version i.
-fn mask_bytes(view: &View, keys: usize) -> Vec<u8> {
-    let mut masks = vec![0u64; keys];
+/// One mask for each key.
+fn masks_bytes(view: &View, keys: usize) -> Vec<u8> {
+    let masks = masks(view).into_iter().take(keys);
+    masks.flat_map(u64::to_le_bytes).collect()
+}
+
+/// The mask of each key that there may be; bit i stands for version i.
+pub fn masks(view: &View) -> [u64; Store::MAX_KEYS] {
+    let mut masks = [0; Store::MAX_KEYS];
     for (key, version) in view {
-        masks[key.0] |= 1u64 << version.0;
+        masks[key.0] |= 1 << version.0;
     }
-    masks.into_iter().flat_map(u64::to_le_bytes).collect()
+    masks
 }

@@ -4,14 +4,14 @@
 //! stack than they say.
 
 use model::files::{at, files, report_of};
-use model::generate::{exactly_full, file, largest, largest_serial};
+use model::generate::{exactly_full, file, growing_case, largest, largest_serial};
 use model::levels::{place_of, LEVELS};
 use model::port::CLOSED;
 use model::programs::{printed, run, Said};
 use model::random::Random;
 use model::store::Store;
 use model::trace::encode;
-use model::{judge_with_room, replay, Answer, Call, Replay, Verdict};
+use model::{convert, judge_with_room, replay, Answer, Call, Edition, Replay, Verdict};
 use std::fs::{self, File, OpenOptions};
 use std::io::Write;
 use std::path::{Path, PathBuf};
@@ -40,7 +40,20 @@ fn print_report(file: &[u8]) -> Said {
 /// What `write_replay` must write: the replay, or why there is none.
 fn write_replay(file: &[u8]) -> Said {
     let mut buffer = vec![0; consistency::LONGEST_REPLAY];
-    match replay(file, &mut buffer) {
+    let answer = replay(file, &mut buffer);
+    told(answer, buffer)
+}
+
+/// What `write_short` must write: the short edition, or why there is none.
+fn write_short(file: &[u8]) -> Said {
+    let mut buffer = vec![0; consistency::LONGEST_FILE];
+    let answer = convert(Edition::Short, file, &mut buffer);
+    told(answer, buffer)
+}
+
+/// A file that was written into a buffer, or why there is none.
+fn told(answer: Replay, buffer: Vec<u8>) -> Said {
+    match answer {
         Replay::Refused(refusal) => {
             let told = format!("code {} at record {}\n", refusal.code, refusal.record);
             (Vec::new(), told)
@@ -142,6 +155,7 @@ fn what_the_examples_must_say() {
     let told = (Vec::new(), "code 16 at record 2\n".to_string());
     assert_eq!(write_replay(&all[1]), told);
     assert_eq!(write_replay(&all[4]).0.len(), 92);
+    assert_eq!(write_short(&all[4]).0.len(), 82);
 }
 
 #[test]
@@ -165,6 +179,8 @@ fn from_c() {
     check(&program, keeps_si);
     let program = compiled("write_replay", words, "bindings/c/write_replay.c");
     check(&program, write_replay);
+    let program = compiled("write_short", words, "bindings/c/write_short.c");
+    check(&program, write_short);
     let program = compiled("report_pieces", words, "bindings/c/report_pieces.c");
     check(&program, print_report);
 }
@@ -177,6 +193,8 @@ fn from_cpp() {
     check(&program, keeps_si);
     let program = compiled("write_replay_cpp", words, "bindings/c/write_replay.c");
     check(&program, write_replay);
+    let program = compiled("write_short_cpp", words, "bindings/c/write_short.c");
+    check(&program, write_short);
     let program = compiled("report_pieces_cpp", words, "bindings/c/report_pieces.c");
     check(&program, print_report);
     let program = compiled("print_report", words, "bindings/c/print_report.cc");
@@ -215,8 +233,14 @@ fn the_readme_has_the_examples() {
 fn the_numbers_of_the_header() {
     let header = text("bindings/c/consistency.h");
     let has = |line: String| assert!(header.contains(&line), "{line}");
-    let longest = [consistency::LONGEST_IMAGE, consistency::LONGEST_REPLAY];
-    assert_eq!(longest, [Call::Judge, Call::Replay].map(Call::longest));
+    for (call, longest) in [
+        (Call::Judge, consistency::LONGEST_IMAGE),
+        (Call::Replay, consistency::LONGEST_REPLAY),
+        (Call::Short, consistency::LONGEST_FILE),
+        (Call::Long, consistency::LONGEST_FILE),
+    ] {
+        assert_eq!(call.longest(), longest, "{call:?}");
+    }
     assert_eq!(consistency::LONGEST_FILE, Store::MAX_BYTES);
     assert_eq!(consistency::LONGEST_REPORT, model::text::LONGEST);
     assert_eq!(consistency::JUDGE_WORDS, model::words::JUDGE);
@@ -234,6 +258,8 @@ fn the_numbers_of_the_header() {
     defines("JUDGE_STACK", consistency::JUDGE_STACK);
     defines("REPLAY_WORDS", consistency::REPLAY_WORDS);
     defines("REPLAY_STACK", consistency::REPLAY_STACK);
+    defines("CONVERSION_WORDS", consistency::CONVERSION_WORDS);
+    defines("CONVERSION_STACK", consistency::CONVERSION_STACK);
     defines("REPORT_STACK", consistency::REPORT_STACK);
     defines("PUSH_STACK", consistency::PUSH_STACK);
     defines("CLOSE_STACK", consistency::CLOSE_STACK);
@@ -279,7 +305,7 @@ fn the_table_of_codes() {
         &["code", "refused since", "names"],
     );
     let long = table("docs/FORMAT.md", &["code", "when", "names", "what to do"]);
-    let answered = "judged, or the replay is written, or the piece is taken";
+    let answered = "judged, or the file is written, or the piece is taken";
     assert_eq!(long[0][..2], ["0", answered]);
     assert_eq!(codes.len(), long.len() - 1);
     for (code, long) in codes.iter().zip(&long[1..]) {
@@ -299,14 +325,23 @@ fn the_table_of_calls() {
     let codes = [
         of_files(Call::Judge),
         of_files(Call::Replay),
+        of_files(Call::Short),
+        of_files(Call::Long),
         CLOSED.to_string(),
         format!("{CLOSED}, then 17, then {}", of_files(Call::Port)),
     ];
-    let due = |names: [String; 4]| -> Vec<Vec<String>> {
+    let due = |names: [String; 6]| -> Vec<Vec<String>> {
         let rows = names.into_iter().zip(codes.clone());
         rows.map(|(name, codes)| vec![name, codes]).collect()
     };
-    let functions = ["judge_file", "replay_file", "push_piece", "close_session"];
+    let functions = [
+        "judge_file",
+        "replay_file",
+        "short_file",
+        "long_file",
+        "push_piece",
+        "close_session",
+    ];
     let header = due(functions.map(str::to_string));
     assert_eq!(table("bindings/c/consistency.h", &head), header);
     let format = due(functions.map(|name| format!("`{name}`")));
@@ -356,7 +391,13 @@ fn all_sorts() -> Vec<Vec<u8>> {
         let large = [largest, largest_serial, exactly_full];
         large.map(|built| encode(&built(&mut random).trace))
     });
-    examples.chain(large).chain((0..1_000).map(file)).collect()
+    let growing = (0..12).map(|seed| growing_case(&mut Random::seeded(seed)).bytes);
+    let generated = (0..1_000).map(file);
+    examples
+        .chain(large)
+        .chain(growing)
+        .chain(generated)
+        .collect()
 }
 
 /// What each call takes, measured. The program looks up `memcpy` and `memset`
@@ -373,6 +414,8 @@ fn the_stack_of_each_call() {
     for (call, promised) in [
         ("judge_file", consistency::JUDGE_STACK),
         ("replay_file", consistency::REPLAY_STACK),
+        ("short_file", consistency::CONVERSION_STACK),
+        ("long_file", consistency::CONVERSION_STACK),
         ("report_file", consistency::REPORT_STACK),
         ("open_session", consistency::PUSH_STACK),
         ("push_piece", consistency::PUSH_STACK),
@@ -393,7 +436,7 @@ const THREAD: usize = 16_384;
 #[test]
 fn the_stack_of_each_call_in_rust() {
     let files = all_sorts();
-    let mut buffer = vec![0; consistency::LONGEST_IMAGE.max(consistency::LONGEST_REPLAY)];
+    let mut buffer = vec![0; consistency::LONGEST_IMAGE.max(consistency::LONGEST_FILE)];
     let mut text = vec![0; consistency::LONGEST_REPORT];
     let mut on_a_thread = |stack: usize, call: fn(&[u8], &mut [u8], &mut [u8])| {
         let calls = || {
@@ -411,6 +454,10 @@ fn the_stack_of_each_call_in_rust() {
     });
     on_a_thread(consistency::REPLAY_STACK, |file, buffer, _| {
         consistency::replay(file, buffer);
+    });
+    on_a_thread(consistency::CONVERSION_STACK, |file, buffer, _| {
+        consistency::short(file, buffer);
+        consistency::long(file, buffer);
     });
     on_a_thread(consistency::REPORT_STACK, |file, image, text| {
         consistency::report(file, image, text);

@@ -1,8 +1,8 @@
 //! The files that the repository keeps are those of the model. Where one is
 //! not, `cargo run --offline --example write_traces` writes them again.
 
-use model::example_traces::{trace_b, trace_e};
-use model::files::{arguments, at, files, printed, replay_of, report_of};
+use model::example_traces::{trace_b, trace_c, trace_e};
+use model::files::{arguments, at, files, printed, replay_of, report_of, written_of};
 use model::store::Store;
 use model::trace::encode;
 use model::{outcome, Call};
@@ -62,6 +62,12 @@ fn what_the_programs_read_and_print() {
     let e = encode(&trace_e());
     assert_eq!(kept("crates/replay/stdin"), e);
     assert_eq!(kept("crates/replay/stdout"), replay_of(&e));
+    let c = encode(&trace_c());
+    let short = written_of(Call::Short, &c);
+    assert_eq!(kept("crates/short/stdin"), c);
+    assert_eq!(kept("crates/short/stdout"), short);
+    assert_eq!(kept("crates/long/stdin"), short);
+    assert_eq!(kept("crates/long/stdout"), c);
     assert_eq!(kept("crates/vectors/args"), arguments().as_bytes());
     assert_eq!(kept("crates/vectors/stdout"), printed().as_bytes());
 }
@@ -93,6 +99,9 @@ fn the_examples_of_the_formats() {
     let e = outcome(&encode(&trace_e()));
     let replay = Call::Replay.written(&e).expect("SER accepts");
     assert_eq!(bytes_below("\n### Example: a view that was lost\n"), replay);
+    let short = Call::Short.written(&e).expect("it fits");
+    let head = "\n### Example: the same view lost, written short\n";
+    assert_eq!(bytes_below(head), short);
 }
 
 /// A number as it stands in a text: 65,536.
@@ -122,7 +131,8 @@ fn the_limits_of_the_formats() {
         format!("shorter than {least} bytes, longer than {most},"),
         format!("a judged trace, at most {image} bytes."),
         format!("the longest image has {image} bytes"),
-        format!("the longest replay has {replay} bytes"),
+        format!("the longest replay has {replay} bytes, a trace in one edition at most {most}"),
+        format!("the trace in that edition has more than {most} bytes"),
         format!("The longest has {replay}: {longest}."),
         format!("| how many bytes came; {too_many} stands for every number above {most} |\n"),
         format!("Where more than {most} bytes came in pieces,"),

@@ -1,17 +1,17 @@
 //! The programs, as `rt check` builds them: what each has to say of the bytes on
 //! its standard input is the model's. `judge` and `port` print the report;
-//! `replay` writes the replay, or tells the refusal on standard error and writes
-//! nothing.
+//! `replay`, `short` and `long` write a file, or tell the refusal on standard
+//! error and write nothing.
 
 use model::example_traces::{trace_b, trace_e};
 use model::files::files;
-use model::generate::{case, exactly_full, largest_serial};
+use model::generate::{case, exactly_full, growing_case, largest_serial, GROWING};
 use model::met::{possible_combinations, refusing};
 use model::programs::{due, program, run, said, Said};
 use model::random::Random;
 use model::trace::{encode, with_true_length};
 use model::{outcome, Call, Outcome, Refusal};
-use std::collections::BTreeMap;
+use std::collections::{BTreeMap, BTreeSet};
 use std::process::Command;
 
 const WHOLE: usize = usize::MAX;
@@ -116,6 +116,36 @@ fn the_longest_replay() {
     let report = String::from_utf8(report).expect("text");
     assert!(report.starts_with("records 126 commits 63\n"));
     assert_eq!(report.matches(" accepted\n").count(), 10);
+}
+
+/// Files of which an edition is as long as a file may be, or longer. What is
+/// written goes from one program to the other: short of short is short, long of
+/// short is long, and the report is the same.
+#[test]
+fn growing_files() {
+    let mut met = BTreeSet::new();
+    for seed in 0..60 {
+        let case = growing_case(&mut Random::seeded(seed));
+        let sort = case.grows.expect("it grows");
+        if !met.insert(sort) {
+            continue;
+        }
+        check(sort, &case.bytes, &outcome(&case.bytes));
+        let report = says(Call::Judge, &case.bytes, WHOLE);
+        for call in [Call::Short, Call::Long] {
+            let said = says(call, &case.bytes, WHOLE);
+            if said.0.is_empty() {
+                assert_eq!(said.1, "refused 22 record 0 key 0 version 0\n", "{sort}");
+                continue;
+            }
+            assert!(says(Call::Judge, &said.0, WHOLE) == report, "{sort}");
+            for other in [Call::Short, Call::Long] {
+                let again = says(other, &said.0, WHOLE);
+                assert!(again == says(other, &case.bytes, WHOLE), "{sort}");
+            }
+        }
+    }
+    assert_eq!(met.len(), GROWING.len());
 }
 
 /// A file that comes in pieces is the file.

@@ -2,12 +2,13 @@
 //! many lengths.
 
 use consistency::{
-    judge_words, replay, Replay, JUDGE_WORDS, LONGEST_REPLAY, LONGEST_REPORT, NO_ROOM,
+    judge_words, replay, Conversion, Replay, JUDGE_WORDS, LONGEST_FILE, LONGEST_REPLAY,
+    LONGEST_REPORT, NO_ROOM,
 };
 use model::beside::{compare, in_words, lengths};
 use model::buffer::{pattern, untouched, LONG};
 use model::files::files;
-use model::generate::{file, largest_serial};
+use model::generate::{file, growing_case, largest_serial};
 use model::met::Met;
 use model::random::Random;
 use model::trace::encode;
@@ -23,6 +24,7 @@ fn compare_from(first: u64) -> Met {
     Met::of(seeds, |seed, case, outcome| {
         let name = format!("seed {seed}");
         read_back(&name, &case.bytes, outcome);
+        convert_back(&name, &case.bytes, outcome);
         let calls = Call::ALL.into_iter();
         calls
             .flat_map(|call| compare_all(call, &name, &case.bytes, outcome))
@@ -59,6 +61,47 @@ fn read_back(name: &str, file: &[u8], outcome: &Outcome) {
     assert_eq!(replay(written, &mut again), Replay::Written(due.len()));
     assert!(again == written, "{name}: another replay");
 }
+
+/// A trace that was written in an edition is judged: it has the answer and the
+/// image of the file that was read. It is written again: each edition is what it
+/// was.
+fn convert_back(name: &str, file: &[u8], outcome: &Outcome) {
+    let Ok(taken) = outcome else {
+        return;
+    };
+    let mut image = vec![0; taken.image.len()];
+    let mut words = [7; JUDGE_WORDS];
+    assert_eq!(judge_words(file, &mut image, &mut words), 0, "{name}");
+    let editions = EDITIONS.map(|call| {
+        let mut buffer = vec![0; LONGEST_FILE];
+        let written = match call(file, &mut buffer) {
+            Conversion::Refused(_) => None,
+            Conversion::Written(length) => Some(length),
+        };
+        written.map(|length| buffer[..length].to_vec())
+    });
+    for written in editions.iter().flatten() {
+        let mut again = vec![0; image.len()];
+        let mut other_words = [7; JUDGE_WORDS];
+        let code = judge_words(written, &mut again, &mut other_words);
+        assert_eq!(code, 0, "{name}: an edition is refused");
+        assert_eq!(other_words, words, "{name}: other verdicts");
+        assert!(again == image, "{name}: another image");
+        for (call, due) in EDITIONS.iter().zip(&editions) {
+            let Some(due) = due else {
+                continue;
+            };
+            let mut again = vec![0; due.len()];
+            let answer = call(written, &mut again);
+            assert_eq!(answer, Conversion::Written(due.len()), "{name}");
+            assert!(again == *due, "{name}: another edition");
+        }
+    }
+}
+
+/// A call that writes a trace in an edition: short, and long.
+type Converting = fn(&[u8], &mut [u8]) -> Conversion;
+const EDITIONS: [Converting; 2] = [consistency::short, consistency::long];
 
 #[test]
 fn the_proved_calls_answer_as_the_model() {
@@ -102,6 +145,19 @@ fn the_longest_replays() {
         compare_all(Call::Replay, &name, &file, &outcome);
         let written = Call::Replay.written(&outcome).expect("SER accepts");
         assert_eq!(written.len(), LONGEST_REPLAY, "{name}");
+    }
+}
+
+/// Files of which an edition is as long as a file may be, or longer.
+#[test]
+fn growing_files() {
+    for seed in 0..60 {
+        let file = growing_case(&mut Random::seeded(seed)).bytes;
+        let (name, outcome) = (format!("growing {seed}"), outcome(&file));
+        convert_back(&name, &file, &outcome);
+        for call in Call::ALL {
+            compare_all(call, &name, &file, &outcome);
+        }
     }
 }
 

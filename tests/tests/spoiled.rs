@@ -3,7 +3,9 @@
 //! bit flipped. The files are example traces and generated ones.
 
 use model::beside::compare;
+use model::editions::{masks_of_commit, short_commit_len, short_shift_len};
 use model::files::files;
+use model::generate::editions::kinds;
 use model::generate::{exactly_full, record_places, taken_case, FORMER_KEYS};
 use model::random::Random;
 use model::store::Store;
@@ -30,6 +32,10 @@ fn some_files(number: usize, bytes: usize) -> Vec<(String, Vec<u8>)> {
     some.extend(generated.take(number));
     let wide = |file: &[u8]| usize::from(file[8]) > FORMER_KEYS;
     assert!(some.iter().any(|(_, file)| wide(file)), "few keys");
+    let mut kinds: Vec<u8> = some.iter().flat_map(|(_, file)| kinds(file)).collect();
+    kinds.sort();
+    kinds.dedup();
+    assert!([2, 3, 5, 6].iter().all(|kind| kinds.contains(kind)));
     some
 }
 
@@ -108,14 +114,17 @@ fn truncations_of_a_full_file() {
     codes.met("truncations of a full file", &[1, 3]);
 }
 
-/// The fields that say how long something is or how many there are: the place
-/// and the bytes of each.
+/// The fields that say how long something is or how many there are, sets among
+/// them: the place and the bytes of each.
 fn length_fields(file: &[u8]) -> Vec<(usize, usize)> {
     let mut fields = vec![(0, 4), (4, 2), (10, 2)];
     for place in record_places(file) {
         if place + 6 <= file.len() {
             fields.push((place, 2));
             fields.push((place + 5, 1));
+        }
+        if kind_at(file, place) == Some(6) && place + 10 <= file.len() {
+            fields.push((place + 6, 4));
         }
     }
     fields
@@ -124,7 +133,7 @@ fn length_fields(file: &[u8]) -> Vec<(usize, usize)> {
 #[test]
 fn lying_lengths() {
     let mut codes = Codes::default();
-    for (name, file) in some_files(60, 2_000) {
+    for (name, file) in some_files(75, 2_000) {
         for (at, bytes) in length_fields(&file) {
             let mut field = [0; 8];
             field[..bytes].copy_from_slice(&file[at..at + bytes]);
@@ -138,7 +147,8 @@ fn lying_lengths() {
             }
         }
     }
-    codes.met("lying lengths", &[1, 2, 3, 4, 5, 7, 8]);
+    // A set of as many keys, but of other ones, lies about what the record means.
+    codes.met("lying lengths", &[0, 1, 2, 3, 4, 5, 7, 8, 10, 11, 12, 13]);
 }
 
 /// Numbers near to a number, and some far from it.
@@ -150,18 +160,34 @@ fn lies_about(truth: u64) -> Vec<u64> {
     lies
 }
 
-/// The number of operations and the length that goes with it lie together.
+/// The kind of the record at a place.
+fn kind_at(file: &[u8], place: usize) -> Option<u8> {
+    file.get(place + 2).copied()
+}
+
+/// The number of operations and the length that goes with it lie together. That
+/// of a kind 5 goes by the keys that are read then.
 #[test]
 fn lying_numbers_of_operations() {
     let mut codes = Codes::default();
     for (name, file) in some_files(60, 2_000) {
         let keys = usize::from(file[8]);
         for place in record_places(&file) {
-            if place + 10 > file.len() || file[place + 2] != 3 {
+            if place + 10 > file.len() || !matches!(kind_at(&file, place), Some(3 | 5)) {
                 continue;
             }
             for operations in (0..=Store::MAX_OPERATIONS + 8).chain([254, 255]) {
-                let length = commit_len(operations, keys);
+                let length = match kind_at(&file, place) {
+                    Some(3) => commit_len(operations, keys),
+                    _ => {
+                        let keys: Vec<u8> = file[place + 10..]
+                            .chunks(8)
+                            .take(operations)
+                            .filter_map(|operation| operation.get(1).copied())
+                            .collect();
+                        short_commit_len(operations, masks_of_commit(&keys))
+                    }
+                };
                 let mut lying = file.clone();
                 lying[place..place + 2].copy_from_slice(&(length as u16).to_le_bytes());
                 lying[place + 5] = operations as u8;
@@ -173,6 +199,31 @@ fn lying_numbers_of_operations() {
         }
     }
     codes.met("lying numbers of operations", &[1, 3, 4, 5, 7, 8]);
+}
+
+/// A bit of a set is another one, and the length goes with it.
+#[test]
+fn lying_sets() {
+    let mut codes = Codes::default();
+    for (name, file) in some_files(100, 2_000) {
+        for place in record_places(&file) {
+            if place + 10 > file.len() || kind_at(&file, place) != Some(6) {
+                continue;
+            }
+            for bit in 0..32 {
+                let mut lying = file.clone();
+                lying[place + 6 + bit / 8] ^= 1 << (bit % 8);
+                let set: u32 = lying[place + 6..place + 10]
+                    .iter()
+                    .map(|byte| byte.count_ones())
+                    .sum();
+                let length = short_shift_len(set as usize) as u16;
+                lying[place..place + 2].copy_from_slice(&length.to_le_bytes());
+                codes.spoiled(&format!("{name}, bit {bit} of the set at {place}"), &lying);
+            }
+        }
+    }
+    codes.met("lying sets", &[3, 4, 5, 7]);
 }
 
 #[test]

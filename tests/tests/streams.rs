@@ -92,18 +92,27 @@ fn an_empty_input() {
     let printed = (format!("{line}\n").into_bytes(), String::new());
     assert_eq!(redirected(Call::Judge, "< /dev/null"), printed);
     assert_eq!(redirected(Call::Port, "< /dev/null"), printed);
-    assert_eq!(redirected(Call::Replay, "< /dev/null"), told(line));
+    for call in [Call::Replay, Call::Short, Call::Long] {
+        assert_eq!(redirected(call, "< /dev/null"), told(line));
+    }
 }
 
-/// A refusal of `replay` goes to standard error whatever standard output is,
-/// and nowhere else if it cannot be told there.
+/// A refusal of a program that writes a file goes to standard error whatever
+/// standard output is, and nowhere else if it cannot be told there.
 #[test]
 fn a_refusal_beside_closed_streams() {
-    let line = "refused 16 record 2 key 0 version 1";
-    let nothing = (Vec::new(), String::new());
-    for (streams, due) in [("", told(line)), (">&-", told(line)), ("2>&-", nothing)] {
-        let line = format!("< B-lost-update {streams}");
-        assert_eq!(redirected(Call::Replay, &line), due, "{line}");
+    let no_replay = "refused 16 record 2 key 0 version 1";
+    let wrong_read = "refused 13 record 1 key 0 version 0";
+    for (call, file, line) in [
+        (Call::Replay, "B-lost-update", no_replay),
+        (Call::Short, "I-wrong-read", wrong_read),
+        (Call::Long, "I-wrong-read", wrong_read),
+    ] {
+        let nothing = (Vec::new(), String::new());
+        for (streams, due) in [("", told(line)), (">&-", told(line)), ("2>&-", nothing)] {
+            let line = format!("< {file} {streams}");
+            assert_eq!(redirected(call, &line), due, "{line}");
+        }
     }
 }
 

@@ -80,7 +80,7 @@ impl<const WIDTH: usize> Workspace<WIDTH> {
                 client,
                 session,
                 operations,
-                masks,
+                ..
             } = record
             else {
                 continue;
@@ -90,13 +90,13 @@ impl<const WIDTH: usize> Workspace<WIDTH> {
             };
             let client = client as u8;
 
-            let length = SHIFT + masks.len();
+            let length = SHIFT + 8 * self.keys;
             let (shift, next) = rest.split_at_mut(length);
             let [l0, l1] = (length as u16).to_le_bytes();
             shift[..SHIFT].copy_from_slice(&[l0, l1, 2, 0, client, 0]);
             put_masks(&mut shift[SHIFT..], before);
 
-            let length = COMMIT + operations.len() + masks.len();
+            let length = COMMIT + operations.len() + 8 * self.keys;
             let (commit, next) = next.split_at_mut(length);
             let [l0, l1] = (length as u16).to_le_bytes();
             let [s0, s1, s2, s3] = session.to_le_bytes();

@@ -21,6 +21,24 @@ extern "C" {
         words_length: usize,
     ) -> u64;
 
+    pub fn short_file(
+        file: *const u8,
+        file_length: usize,
+        buffer: *mut u8,
+        buffer_length: usize,
+        words: *mut u64,
+        words_length: usize,
+    ) -> u64;
+
+    pub fn long_file(
+        file: *const u8,
+        file_length: usize,
+        buffer: *mut u8,
+        buffer_length: usize,
+        words: *mut u64,
+        words_length: usize,
+    ) -> u64;
+
     pub fn report_file(
         file: *const u8,
         file_length: usize,

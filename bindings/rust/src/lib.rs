@@ -11,16 +11,20 @@
 //!
 //! [`Refusal`] has the table of codes and that of the calls which give them,
 //! [`Verdicts`] that of levels and [`Verdict`] that of clauses.
-//! `docs/FORMAT.md` has the trace file, the image, the replay and the report,
-//! and the long form of the tables.
+//! `docs/FORMAT.md` has the trace file, its two editions, the image, the replay
+//! and the report, and the long form of the tables.
 
 mod archive;
+mod converting;
 mod judging;
 mod refusal;
 mod replaying;
 mod report;
 mod session;
 
+pub use converting::{
+    long, long_words, short, short_words, Conversion, CONVERSION_STACK, CONVERSION_WORDS,
+};
 pub use judging::{judge, judge_words, Answer, Verdict, Verdicts, JUDGE_STACK, JUDGE_WORDS};
 pub use refusal::{Key, Refusal, VersionNumber, NO_ROOM, REFUSAL_WORDS};
 pub use replaying::{replay, replay_words, Replay, LONGEST_REPLAY, REPLAY_STACK, REPLAY_WORDS};
@@ -30,7 +34,8 @@ pub use session::{
     PUSH_STACK,
 };
 
-/// The most bytes that a trace file may have; a longer one is code 1.
+/// The most bytes that a trace file may have; a longer one is code 1, and none is
+/// written.
 pub const LONGEST_FILE: usize = 65_536;
 
 /// No image is longer; a buffer of this length is never too short.

@@ -20,7 +20,7 @@ pub struct VersionNumber(pub usize);
 /// | 4 | a record has a kind that is not in the format | record |
 /// | 5 | bytes are left after the records that the header counts | the last record |
 /// | 6 | a record has a client that is not in the header | record |
-/// | 7 | a spare byte is not zero, or an operation's kind, key or order is wrong | record |
+/// | 7 | a spare byte, a set, or an operation's kind, key or order is wrong | record |
 /// | 8 | there is a 64th commit | record |
 /// | 9 | a client's session number does not rise | record |
 /// | 10 | a view lacks version 0 or holds a version that does not exist | record, least key |
@@ -32,6 +32,7 @@ pub struct VersionNumber(pub usize);
 /// | 16 | SER does not accept the trace, so that it has no replay | record, key and version of SER's verdict |
 /// | 17 | the file buffer is shorter than the file, or than the pieces that came | |
 /// | 18 | the session is closed | |
+/// | 22 | the file that is to be written has more than 65,536 bytes | |
 ///
 /// A call gives these and no others:
 ///
@@ -39,6 +40,8 @@ pub struct VersionNumber(pub usize);
 /// |---|---|
 /// | [`judge`](crate::judge) | 1 to 14, then 15 |
 /// | [`replay`](crate::replay) | 1 to 14, then 16, then 17 |
+/// | [`short`](crate::short) | 1 to 14, then 22, then 17 |
+/// | [`long`](crate::long) | 1 to 14, then 22, then 17 |
 /// | [`push_piece`](crate::push_piece) | 18 |
 /// | [`close_session`](crate::close_session) | 18, then 17, then 1 to 14, then 15 |
 ///

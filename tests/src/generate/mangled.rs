@@ -1,24 +1,25 @@
 //! Spoiled bytes: cut files, fields that lie, random bytes, flipped bits,
 //! records that are moved, and traces with random changes to what they say.
 
+use super::editions::{mixed, Mixing};
 use super::taken::{build, number_of_keys, Style};
 use super::Expected;
 use crate::form::u16_at;
 use crate::random::Random;
 use crate::store::{Key, Version, View};
-use crate::trace::{encode, with_true_length, Record, Trace};
+use crate::trace::{file_of, with_true_length, Record, Trace};
 use crate::Refusal;
 
 /// One spoiled file: in which way, its bytes, and what is known of it.
 pub fn mangled(random: &mut Random) -> (&'static str, Vec<u8>, Expected) {
     match random.below(9) {
         0 => {
-            let file = encode(&small_trace(random));
+            let file = small_file(random);
             let cut = file[..random.below(file.len())].to_vec();
             ("cut", cut, Expected::Refused(Refusal::at(1, 0)))
         }
         1 => {
-            let file = encode(&small_trace(random));
+            let file = small_file(random);
             let cut = file[..random.between(4, file.len())].to_vec();
             let cut = with_true_length(cut);
             ("cut, its length true", cut, Expected::Anything)
@@ -31,13 +32,18 @@ pub fn mangled(random: &mut Random) -> (&'static str, Vec<u8>, Expected) {
     }
 }
 
-fn small_trace(random: &mut Random) -> Trace {
+pub fn small_trace(random: &mut Random) -> Trace {
     loop {
         let style = Style::random(random);
         if style.commits <= 16 {
             return build(random, &style).trace;
         }
     }
+}
+
+fn small_file(random: &mut Random) -> Vec<u8> {
+    let trace = small_trace(random);
+    mixed(random, &trace)
 }
 
 /// The places of the records after the header, and the end of the file.
@@ -53,8 +59,7 @@ pub fn record_places(file: &[u8]) -> Vec<usize> {
 
 /// A u16 somewhere is another one; more often a length, kind or count.
 fn lying(random: &mut Random) -> Vec<u8> {
-    let trace = small_trace(random);
-    let mut file = encode(&trace);
+    let mut file = small_file(random);
     let mut fields = vec![0, 2, 4, 6, 8, 10];
     for at in record_places(&file) {
         if at < file.len() {
@@ -94,7 +99,7 @@ fn random_bytes(random: &mut Random) -> Vec<u8> {
         file[4..12].copy_from_slice(&[8, 0, 1, 0, keys, 2, count, 0]);
         // The kind of the first record too, so that its length is looked at.
         if size >= 16 && random.percent(70) {
-            file[14..16].copy_from_slice(&[random.between(1, 3) as u8, 0]);
+            file[14..16].copy_from_slice(&[random.between(1, 6) as u8, 0]);
         }
     }
     file
@@ -102,7 +107,7 @@ fn random_bytes(random: &mut Random) -> Vec<u8> {
 
 /// One to four bits of a good file, mostly after the header.
 fn flipped(random: &mut Random) -> Vec<u8> {
-    let mut file = encode(&small_trace(random));
+    let mut file = small_file(random);
     for _ in 0..random.between(1, 4) {
         let low = if file.len() > 12 && random.percent(90) {
             12
@@ -129,7 +134,7 @@ fn moved(random: &mut Random) -> Vec<u8> {
             _ => trace.records.swap(one, other),
         }
     }
-    encode(&trace)
+    lossy(random, &trace)
 }
 
 /// Small random changes to masks, values, session numbers and clients, so
@@ -173,7 +178,18 @@ fn scrambled(random: &mut Random) -> Vec<u8> {
             }
         }
     }
-    encode(&trace)
+    lossy(random, &trace)
+}
+
+/// The file of a trace that need not be taken, half of the time with commits in
+/// kind 5 that do not say all that changes.
+fn lossy(random: &mut Random, trace: &Trace) -> Vec<u8> {
+    let mixing = Mixing {
+        lossy: random.percent(50),
+        ..Mixing::random(random)
+    };
+    let records = mixing.records(random, trace);
+    file_of(trace, records)
 }
 
 fn scramble_view(random: &mut Random, keys: usize, view: &mut View) {

@@ -1,14 +1,14 @@
 //! Files with faults planted on purpose: one of the codes 1 to 14 at some
 //! record of a taken trace, or several codes that compete in one file.
 
+use super::edges::{with_bit_above, with_due_masks};
+use super::editions::mixed_records;
 use super::taken::{build, Built, Numbering, State, Style};
 use super::Expected;
 use crate::form::u16_at;
 use crate::random::Random;
 use crate::store::{newest, writers_in, Author, Key, Store, Version, View, OPENING};
-use crate::trace::{
-    commit_len, header_bytes, record_bytes, Operation, OperationKind, Record, Trace,
-};
+use crate::trace::{commit_len, header_bytes, Operation, OperationKind, Record, Trace};
 use crate::Refusal;
 use std::collections::BTreeSet;
 
@@ -84,7 +84,7 @@ fn plant_in(random: &mut Random, built: &Built, codes: &[u8]) -> Option<(Vec<u8>
         let near = refusals.last().map(|refusal| refusal.record);
         refusals.push(plant_meaning(random, built, &mut trace, code, near)?);
     }
-    let mut raw = Raw::of(&trace);
+    let mut raw = Raw::of(random, &trace);
     for &code in codes.iter().filter(|code| **code < 8) {
         let near = refusals.last().map(|refusal| refusal.record);
         refusals.push(plant_form(random, &mut raw, code, near)?);
@@ -346,18 +346,14 @@ struct Raw {
 }
 
 impl Raw {
-    fn of(trace: &Trace) -> Raw {
+    fn of(random: &mut Random, trace: &Trace) -> Raw {
         Raw {
             keys: trace.keys,
             clients: trace.clients,
             first_field: None,
             size: None,
             header: header_bytes(trace),
-            records: trace
-                .records
-                .iter()
-                .map(|r| record_bytes(r, trace.keys))
-                .collect(),
+            records: mixed_records(random, trace),
             rest: Vec::new(),
         }
     }
@@ -392,7 +388,7 @@ impl Raw {
 }
 
 fn is_commit(record: &[u8]) -> bool {
-    record.len() > 9 && record[2] == 3
+    record.len() > 9 && (record[2] == 3 || record[2] == 5)
 }
 
 /// Plants one of the codes 1 to 7.
@@ -415,7 +411,9 @@ fn plant_form(
         3 => plant_wrong_record_length(random, raw, near),
         4 => {
             let number = choose(random, &all, near)?;
-            let kind: u16 = random.pick(&[0, 1, 4, 5, 6, 9, 0x0102, 0x0300, 0x0203, 0xFFFF]);
+            let kind: u16 = random.pick(&[
+                0, 1, 4, 7, 9, 0x0102, 0x0300, 0x0203, 0x0105, 0x0600, 0xFFFF,
+            ]);
             raw.records[number - 1][2..4].copy_from_slice(&kind.to_le_bytes());
             Some(Refusal::at(4, number))
         }
@@ -553,8 +551,11 @@ fn plant_wrong_record_length(
     }
 }
 
-/// A spare byte, or the kind, key or order of an operation.
-fn plant_in_body(random: &mut Random, record: &mut [u8], keys: usize) -> Option<()> {
+/// A spare byte, a bit of a set, or the kind, key or order of an operation.
+fn plant_in_body(random: &mut Random, record: &mut Vec<u8>, keys: usize) -> Option<()> {
+    if record[2] == 6 && random.percent(50) {
+        return with_bit_above(random, keys, record);
+    }
     if !is_commit(record) {
         record[5] = random.between(1, 255) as u8;
         return Some(());
@@ -586,5 +587,6 @@ fn plant_in_body(random: &mut Random, record: &mut [u8], keys: usize) -> Option<
             }
         }
     }
+    with_due_masks(record);
     Some(())
 }

@@ -2,6 +2,10 @@
 //! a view is chosen as a set of writers; what is left to a style is which
 //! writers a client sees before a commit and keeps after it.
 
+mod growing;
+
+pub use growing::growing;
+
 use crate::random::Random;
 use crate::relations::{
     one_or_more, prefix_paths, prefix_steps, snapshot_paths, snapshot_steps, so, union, wr, ww,

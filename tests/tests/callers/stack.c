@@ -33,6 +33,18 @@ static void *replay(void *nothing) {
     return nothing;
 }
 
+static void *shorten(void *nothing) {
+    start = __builtin_frame_address(0);
+    short_file(file, file_length, buffer, buffer_length, words, CONSISTENCY_CONVERSION_WORDS);
+    return nothing;
+}
+
+static void *lengthen(void *nothing) {
+    start = __builtin_frame_address(0);
+    long_file(file, file_length, buffer, buffer_length, words, CONSISTENCY_CONVERSION_WORDS);
+    return nothing;
+}
+
 static void *report(void *nothing) {
     start = __builtin_frame_address(0);
     report_file(file, file_length, buffer, buffer_length, text, sizeof text);
@@ -70,8 +82,8 @@ static void *report_one(void *nothing) {
 static const struct {
     const char *name;
     void *(*make)(void *);
-} calls[] = {{"judge_file", judge}, {"replay_file", replay}, {"report_file", report}, {"open_session", open_one},
-             {"push_piece", push}, {"close_session", close_one}, {"report_session", report_one}};
+} calls[] = {{"judge_file", judge}, {"replay_file", replay}, {"short_file", shorten}, {"long_file", lengthen}, {"report_file", report},
+             {"open_session", open_one}, {"push_piece", push}, {"close_session", close_one}, {"report_session", report_one}};
 
 static void must(int holds, const char *what) {
     if (holds) return;
