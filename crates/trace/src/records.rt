@@ -239,8 +239,8 @@ fn short_shift_of(s: &[u8], at: usize, keys: usize, clients: usize, listed: u64)
     requires { ⌜ (at + 10 ≤ length (now s)) × (keys ≤ maxKeys) ⌝ }
     ensures { λ r. ⌜ Answers (now (s .entry)) keys clients (λ h. shortShiftOf (now (s .entry)) h at listed) r ⌝ }
 {
-    let size = 10 + 8 * sets::size(listed);
-    if endian::u16_at(s, at) as usize != size {
+    let size = endian::u16_at(s, at) as usize;
+    if size != 10 + 8 * sets::size(listed) {
         return Reading::Refused(Why::Length);
     }
     if s.len() < at + size {
@@ -338,8 +338,8 @@ fn short_commit_of(s: &[u8], at: usize, keys: usize, clients: usize, m: usize) -
     ensures { λ r. ⌜ Answers (now (s .entry)) keys clients (λ h. shortCommitOf (now (s .entry)) h at m (operationsAt (now (s .entry)) (at + 10) m)) r ⌝ }
 {
     let fitting = keys_fitting(s, at + 10, keys, m);
-    let size = 10 + 8 * m + 8 * keys_counted(s, at + 10, keys, m, fitting);
-    if endian::u16_at(s, at) as usize != size {
+    let size = endian::u16_at(s, at) as usize;
+    if size != 10 + 8 * m + 8 * keys_counted(s, at + 10, keys, m, fitting) {
         return Reading::Refused(Why::Length);
     }
     if s.len() < at + size {

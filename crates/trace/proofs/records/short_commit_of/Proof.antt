@@ -14,11 +14,17 @@ add-keys-fitting c = search needs
 keys-fitting-requires : tie.Need-keys-fitting-requires
 keys-fitting-requires c κs = search needs
 
-mul-size : tie.Need-mul-size
-mul-size c = search needs
+u16-at-requires : tie.Need-u16-at-requires
+u16-at-requires c κs = search needs
 
-add-size : tie.Need-add-size
-add-size c = search needs
+cast-size : tie.Need-cast-size
+cast-size c = search needs
+
+mul-if1 : tie.Need-mul-if1
+mul-if1 c = search needs
+
+add-if1 : tie.Need-add-if1
+add-if1 c = search needs
 
 add-keys-counted : tie.Need-add-keys-counted
 add-keys-counted c = search needs
@@ -26,17 +32,11 @@ add-keys-counted c = search needs
 keys-counted-requires : tie.Need-keys-counted-requires
 keys-counted-requires c κs = search needs
 
-mul-size-2 : tie.Need-mul-size-2
-mul-size-2 c = search needs
+mul-if1-2 : tie.Need-mul-if1-2
+mul-if1-2 c = search needs
 
-add-size-2 : tie.Need-add-size-2
-add-size-2 c = search needs
-
-u16-at-requires : tie.Need-u16-at-requires
-u16-at-requires c κs = search needs
-
-cast-if1 : tie.Need-cast-if1
-cast-if1 c = search needs
+add-if1-2 : tie.Need-add-if1-2
+add-if1-2 c = search needs
 
 returns : tie.Need-returns
 unfolding shortCommitOf listingOf entryOf readingOf ListingFits PlacesFit
@@ -65,17 +65,17 @@ returns-4 c =
     let fails = low-stops _ _ (c .before .before .before .before .before .before .before .keys-fitting .ensures .0) (c .if4 .taken) in
     (λ n. need-met _ _ _ (omega tests) (need-met _ _ _ (omega tests) (need-met _ _ _ (omega tests) (need-unmet _ _ _ fails))), tt)
 
-add-t13 : tie.Need-add-t13
-add-t13 c = search needs
+add-t14 : tie.Need-add-t14
+add-t14 c = search needs
 
-mul-t14 : tie.Need-mul-t14
-mul-t14 c = search needs
+mul-t15 : tie.Need-mul-t15
+mul-t15 c = search needs
 
-add-t15 : tie.Need-add-t15
-add-t15 c = search needs
+add-t16 : tie.Need-add-t16
+add-t16 c = search needs
 
-add-t12 : tie.Need-add-t12
-add-t12 c = search needs
+add-t11 : tie.Need-add-t11
+add-t11 c = search needs
 
 add-u32-at : tie.Need-add-u32-at
 add-u32-at c = search needs
@@ -83,11 +83,11 @@ add-u32-at c = search needs
 u32-at-requires : tie.Need-u32-at-requires
 u32-at-requires c κs = search needs
 
-add-t12-2 : tie.Need-add-t12-2
-add-t12-2 c = search needs
+add-t11-2 : tie.Need-add-t11-2
+add-t11-2 c = search needs
 
-add-t15-2 : tie.Need-add-t15-2
-add-t15-2 c = search needs
+add-t16-2 : tie.Need-add-t16-2
+add-t16-2 c = search needs
 
 returns-5 : tie.Need-returns-5
 unfolding shortCommitOf listingOf entryOf readingOf ListingFits PlacesFit
@@ -101,14 +101,14 @@ short-commit-of-spec =
     (tie.spec
     add-keys-fitting
     keys-fitting-requires
-    mul-size
-    add-size
+    u16-at-requires
+    cast-size
+    mul-if1
+    add-if1
     add-keys-counted
     keys-counted-requires
-    mul-size-2
-    add-size-2
-    u16-at-requires
-    cast-if1
+    mul-if1-2
+    add-if1-2
     returns
     add-if2
     returns-2
@@ -116,12 +116,12 @@ short-commit-of-spec =
     byte-at-requires
     returns-3
     returns-4
-    add-t13
-    mul-t14
-    add-t15
-    add-t12
+    add-t14
+    mul-t15
+    add-t16
+    add-t11
     add-u32-at
     u32-at-requires
-    add-t12-2
-    add-t15-2
+    add-t11-2
+    add-t16-2
     returns-5)

@@ -9,20 +9,20 @@ use borrow.Author.Needs.{needs}
 use Rattle.trace.proofs.records.short_shift_of.Statement.{statement}
 use Rattle.trace.proofs.records.short_shift_of.Tie as tie
 
-size-requires : tie.Need-size-requires
-size-requires c κs = search needs
-
-mul-size : tie.Need-mul-size
-mul-size c = search needs
-
-add-size : tie.Need-add-size
-add-size c = search needs
-
 u16-at-requires : tie.Need-u16-at-requires
 u16-at-requires c κs = search needs
 
-cast-if1 : tie.Need-cast-if1
-cast-if1 c = search needs
+cast-size : tie.Need-cast-size
+cast-size c = search needs
+
+size-requires : tie.Need-size-requires
+size-requires c κs = search needs
+
+mul-if1 : tie.Need-mul-if1
+mul-if1 c = search needs
+
+add-if1 : tie.Need-add-if1
+add-if1 c = search needs
 
 returns : tie.Need-returns
 unfolding shortShiftOf listingOf entryOf readingOf ListingFits PlacesFit
@@ -62,8 +62,8 @@ returns-5 : tie.Need-returns-5
 unfolding shortShiftOf listingOf entryOf readingOf ListingFits PlacesFit
 returns-5 c = (λ n. need-met _ _ _ (omega tests) (need-met _ _ _ (omega tests) (need-met _ _ _ (omega tests) (need-met _ _ _ (omega tests) (need-unmet _ _ _ (le-ltb _ _ (above _ _ (c .if5 .taken))))))), tt)
 
-add-t10 : tie.Need-add-t10
-add-t10 c = search needs
+add-t13 : tie.Need-add-t13
+add-t13 c = search needs
 
 add-t11 : tie.Need-add-t11
 add-t11 c = search needs
@@ -76,11 +76,11 @@ pub short-shift-of-spec : {M : Type 1} → statement M
 short-shift-of-spec =
     tie.close
     (tie.spec
-    size-requires
-    mul-size
-    add-size
     u16-at-requires
-    cast-if1
+    cast-size
+    size-requires
+    mul-if1
+    add-if1
     returns
     add-if2
     returns-2
@@ -92,6 +92,6 @@ short-shift-of-spec =
     returns-4
     shr-if5
     returns-5
-    add-t10
+    add-t13
     add-t11
     returns-6)
