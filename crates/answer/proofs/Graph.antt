@@ -14,9 +14,9 @@ use Rattle.store.specs.History.{Wrote, Read, history, held}
 use Rattle.store.proofs.Updated.{wrote-update, read-update}
 use Rattle.store.specs.Sound.{Sound, WithinKeys}
 use Rattle.store.specs.Legal.{LegalCommit}
-use Rattle.store.proofs.Links.{reads-written, appears-stored, stored-below}
+use Rattle.store.proofs.Links.{reads-written, stored-below}
 use Rattle.growth.specs.Made.{Made}
-use Rattle.growth.proofs.Made.{legal-made, client-kept, client-new, session-kept, session-new}
+use Rattle.growth.proofs.Made.{legal-made, newer-stored, client-kept, client-new, session-kept, session-new}
 
 module _ (g : Configuration) (c : Commit) (h : Sound g) (f : WithinKeys (g .store .keys) c) (l : LegalCommit g c) where
   abbrev s : Store
@@ -47,7 +47,7 @@ module _ (g : Configuration) (c : Commit) (h : Sound g) (f : WithinKeys (g .stor
     reads-written = reads-written s;
     view-written = λ k i x. (_, (h .views (c .client) .exist k i x, refl));
     atomic = λ a (k, i, x, w) k′ i′ w′. h .views (c .client) .whole a k i k′ i′ x w w′;
-    session-grows = λ a (st, p, e). rw (session-new s u c made) (l .newer a (appears-stored s a .1 st) p (e ∙ client-new s u c made));
+    session-grows = λ a (st, p, e). rw (session-new s u c made) (newer-stored s u c made st p (e ∙ client-new s u c made));
   }
     where
       own-write : (a k i : ℕ) → Wrote s a k i ⊎ ((a ≡ nextNumber s) × T (writes c k) × (i ≡ count s k))

@@ -14,7 +14,7 @@ use Rattle.dependencies.specs.History.{ReadYourWrites}
 use Rattle.store.specs.Limits.{numbers}
 use Rattle.store.specs.Store.{Key, VersionNumber, CommitNumber, Value, Version, View, Store, Configuration, count, version, nextNumber, read, write, Commit, Event, shift, commit}
 use Rattle.store.specs.Update.{valueOf, reads, newest, noteRead, append, atNumber, update, viewBefore, storeAfter, step, final}
-use Rattle.store.specs.History.{Wrote, Appears, history, held}
+use Rattle.store.specs.History.{Wrote, InLog, history, held}
 use Rattle.store.proofs.Updated.{at-same, count-update, untouched}
 use Rattle.store.specs.View.{IsView, FitsView}
 use Rattle.store.specs.Sound.{SoundStore, Sound, WithinKeys}
@@ -130,7 +130,7 @@ module _ (g r : Configuration) (c : Commit) (same : g .store ≡ r .store) (soun
   legal-commit : LegalCommit shifted (fullCommit r c)
   unfolding step update
   legal-commit = record {
-    newer = subst (λ (x : Store). (t : CommitNumber) → Appears x t → 0 < t → x .clientOf t ≡ c .client → x .sessionOf t < c .session) same (legal .newer);
+    newer = subst (λ (x : Store). (t : CommitNumber) → InLog x (c .client) t → x .sessionOf t < c .session) same (legal .newer);
     values = λ k x e.
         legal .values k x e
         ∙ ap (λ (y : Store). version y k (newest before k) .value) same

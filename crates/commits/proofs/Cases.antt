@@ -18,20 +18,18 @@ use Rattle.store.specs.Limits.{maxKeys, maxClients}
 use Rattle.store.specs.Store.{View, Store, Configuration, nextNumber, Commit, commit}
 use Rattle.store.specs.Update.{step, viewBefore, storeAfter}
 use Rattle.store.specs.Missing.{Place}
-use Rattle.store.specs.Links.{stored}
 use Rattle.store.specs.Refusal.{Refusal, refuse, refuseKey, refusePlace, notAbove, oldNumber, wrongRead, stray, refusesEvent}
-use Rattle.store.specs.Sound.{SoundStore, Sound}
-use Rattle.store.specs.History.{Appears, history, held}
+use Rattle.store.specs.Sound.{Sound}
+use Rattle.store.specs.History.{InLog, history, held}
 use Rattle.store.specs.View.{IsView, FitsView}
 use Rattle.store.proofs.Sound.{view-of-grown-store}
-use Rattle.store.proofs.Legal.{stored-is, appears-lt, view-is}
-use Rattle.store.proofs.Links.{appears-stored}
+use Rattle.store.proofs.Legal.{view-is}
 use Rattle.growth.specs.Made.{Made, Writes}
 use Rattle.growth.proofs.Made.{keys-after, sound-after, number-after}
 use Rattle.growth.proofs.Ordered.{ordered-commit}
 use Rattle.growth.proofs.Views.{holds-kept}
 use Rattle.state.specs.Places.{barPlace}
-use Rattle.state.specs.Keeps.{IsSet, CommitOf, KeepsSessions, KeepsViews}
+use Rattle.state.specs.Keeps.{IsSet, KeepsSessions, KeepsViews}
 use Rattle.state.proofs.Sets.{isSet-as}
 use Rattle.views.specs.Rows.{Kept}
 use Rattle.views.specs.Viewed.{NewMasks}
@@ -59,25 +57,21 @@ codes-in-turn i g c = two-then-three _ _ _ _ _
 -- ---- code 9
 
 -- the session number is below the bar exactly where it is too small
-pub old-is : (s : Store) (c : Commit) (sessions : List ℕ) → SoundStore s → KeepsSessions s sessions → c .client < maxClients
+pub old-is : (s : Store) (c : Commit) (sessions : List ℕ) → KeepsSessions s sessions → c .client < maxClients
     → T (oldNumber s c) ↔ (c .session < getD sessions (barPlace (c .client)) 0)
 unfolding oldNumber
-old-is s c sessions h k b = both (both found same) ((k .bar (c .client) b (c .session)) .1, (k .bar (c .client) b (c .session)) .0)
+old-is s c sessions k b = both (both found same) ((k .bar (c .client) b (c .session)) .1, (k .bar (c .client) b (c .session)) .0)
   where
     Above : ℕ → Type 0
-    Above t = (Appears s t × (0 < t)) × ((s .clientOf t ≡ c .client) × (c .session ≤ s .sessionOf t))
+    Above t = (0 < t) × ((s .clientOf t ≡ c .client) × (c .session ≤ s .sessionOf t))
 
     found : T (any (nextNumber s) (notAbove s c)) ↔ ((t : ℕ) × (t < nextNumber s) × Above t)
     found = any-is (nextNumber s) (notAbove s c) (λ t.
-        and-is (stored s t && ltb 0 t) (eqb (s .clientOf t) (c .client) && leb (c .session) (s .sessionOf t))
-        (and-is (stored s t) (ltb 0 t) (stored-is s h t) (lt-is 0 t))
+        and-is (ltb 0 t) (eqb (s .clientOf t) (c .client) && leb (c .session) (s .sessionOf t)) (lt-is 0 t)
         (and-is (eqb (s .clientOf t) (c .client)) (leb (c .session) (s .sessionOf t)) (eq-is _ _) (le-is _ _)))
 
-    same : ((t : ℕ) × (t < nextNumber s) × Above t) ↔ ((t : ℕ) × CommitOf s (c .client) t × (c .session ≤ s .sessionOf t))
-    same = (
-      λ (t, l, ((a, p), (e, q))). (t, (appears-stored s t .0 a, p, e), q),
-      λ (t, (a, p, e), q). let x = appears-stored s t .1 a in (t, appears-lt s h t x, ((x, p), (e, q))),
-    )
+    same : ((t : ℕ) × (t < nextNumber s) × Above t) ↔ ((t : ℕ) × InLog s (c .client) t × (c .session ≤ s .sessionOf t))
+    same = (λ (t, l, (p, (e, q))). (t, (p, l, e), q), λ (t, (p, l, e), q). (t, l, (p, (e, q))))
 
 -- ---- before the commit is made
 
@@ -186,4 +180,4 @@ module _ {s : Store} {u : View} {c : Commit} {sessions versions views values : L
       let own : c .client < maxClients = let e = g .client-is in omega arith in
       subst (λ (d : ℕ). T (oldNumber s c) ↔ (session < getD sessions (2 * maxClients + d) 0)) (g .client-is)
       (subst (λ (x : ℕ). T (oldNumber s c) ↔ (x < getD sessions (barPlace (c .client)) 0)) (g .session-is)
-      (old-is s c sessions (g .given .sound) (g .in-sessions) own))
+      (old-is s c sessions (g .in-sessions) own))

@@ -9,9 +9,8 @@ use Rattle.dependencies.specs.History.{Stored, as-writer, as-reader, SO, sessio
 use Rattle.store.specs.Store.{Key, VersionNumber, CommitNumber, View, Store, count, version, nextNumber, Commit}
 use Rattle.store.specs.Update.{reads, writes, newest, update}
 use Rattle.store.specs.History.{Wrote, Read, history}
-use Rattle.store.proofs.Links.{appears-stored}
 use Rattle.growth.specs.Made.{Made, WriterOf, ReaderOf, CommitBy, Operates}
-use Rattle.growth.proofs.Made.{read-exists, wrote-after, read-after, stored-after, stored-not-new, client-kept, client-new, session-kept, session-new, after}
+use Rattle.growth.proofs.Made.{read-exists, wrote-after, read-after, newer-stored, stored-after, stored-not-new, client-kept, client-new, session-kept, session-new, after}
 use Rattle.growth.specs.Links.{FromSession, FromRead, FromWrite, FromReader, ToLater}
 
 -- such commits stand in the store before
@@ -38,7 +37,7 @@ module _ (s : Store) (u : View) (c : Commit) (m : Made s u c) where
       cases p q e l (inr (z, o)) (inl y) =
           let nb = stored-not-new s u c m y in
           let by : s .clientOf b ≡ c .client = sym (client-kept s u c m nb) ∙ sym e ∙ ap (update s u c .clientOf) z ∙ client-new s u c m in
-          let n : s .sessionOf b < c .session = m .newer b (appears-stored s b .1 y) q by in
+          let n : s .sessionOf b < c .session = newer-stored s u c m y q by in
           let f : update s u c .sessionOf a ≡ c .session = ap (update s u c .sessionOf) z ∙ session-new s u c m in
           let g : update s u c .sessionOf b ≡ s .sessionOf b = session-kept s u c m nb in
           absurd (omega arith)
@@ -57,7 +56,7 @@ module _ (s : Store) (u : View) (c : Commit) (m : Made s u c) where
           let na = stored-not-new s u c m x in
           session-order (stored-after s u c m a .1 (inl x)) (stored-after s u c m b .1 (inr (z, o))) p (omega arith)
           (client-kept s u c m na ∙ e ∙ sym (ap (update s u c .clientOf) z ∙ client-new s u c m))
-          (rw (session-kept s u c m na, z, session-new s u c m) (m .newer a (appears-stored s a .1 x) p e))
+          (rw (session-kept s u c m na, z, session-new s u c m) (newer-stored s u c m x p e))
 
   pub WR-after : (a b : CommitNumber) → WR (after s u c) a b ↔ (WR (history s) a b ⊎ ((b ≡ nextNumber s) × FromRead s u c a))
   WR-after a b = (out, back)

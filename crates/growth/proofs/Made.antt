@@ -65,6 +65,10 @@ module _ (s : Store) (u : View) (c : Commit) (m : Made s u c) where
   pub read-exists : (k : Key) → T (reads c k) → newest u k < count s k
   read-exists k r = m .view .exist k (newest u k) (read-held k r)
 
+  -- the number of a commit in the store is below that of the commit, as that of any earlier one of its client
+  pub newer-stored : {t : CommitNumber} → Stored (history s) t → 0 < t → s .clientOf t ≡ c .client → s .sessionOf t < c .session
+  newer-stored {t} x p e = m .newer t (p, stored-below s (m .sound) t x, e)
+
   -- versions and their writers, and their readers
   pub wrote-after : (t k i : ℕ) → Wrote (update s u c) t k i ↔ (Wrote s t k i ⊎ ((t ≡ nextNumber s) × T (writes c k) × (i ≡ count s k)))
   wrote-after = wrote-update-is s u c

@@ -1,14 +1,14 @@
 -- Commit numbers are in order: along a session, along the versions of a key, and from the writer of a version to its readers. So it is at the opening,
 -- and a commit keeps it; and so SO, WR and WW lead from smaller numbers to larger, and SO is the order of numbers. Assumes nothing.
 use mathlib.Core.Path.{_≡_, refl, sym, ap, _∙_, subst}
-use mathlib.Core.Logic.{_⊎_, inl, inr, _↔_}
+use mathlib.Core.Logic.{_⊎_, inl, inr, _↔_, _≢_}
 use mathlib.Core.List.{List}
 use Prim.Native.Nat.{ℕ, _≤_, _<_}
 use native.Mathlib.Omega.{arith}
-use native.Mathlib.Decide.{decLt}
+use native.Mathlib.Decide.{decLt, ℕ-discrete}
 use lib.Dec.{T}
 use Rattle.relations.specs.Relation.{alone, followed, Plus, one, more}
-use Rattle.dependencies.specs.History.{Stored, SO, session-order, WR, write-read, WW, write-write, RW, read-write, PlainLink, by-SO, by-WR, by-WW, PrefixStep, SnapshotStep}
+use Rattle.dependencies.specs.History.{SO, session-order, WR, write-read, WW, write-write, RW, read-write, PlainLink, by-SO, by-WR, by-WW, PrefixStep, SnapshotStep}
 use Rattle.dependencies.proofs.Implications.{snapshot-prefix}
 use Rattle.store.specs.Store.{Key, CommitNumber, View, Store, Configuration, openingStore, opening, count, version, nextNumber, Commit, Event}
 use Rattle.store.specs.Update.{reads, writes, newest, update, step, final}
@@ -17,9 +17,9 @@ use Rattle.store.proofs.Updated.{wrote-stays}
 use Rattle.store.specs.Sound.{SoundStore, Sound}
 use Rattle.store.proofs.Sound.{opening-unread, sound-opening}
 use Rattle.store.proofs.Run.{LegalRun, done, shifts, commits, sound-shifts, sound-commits}
-use Rattle.store.proofs.Links.{appears-stored, stored-below}
-use Rattle.growth.specs.Made.{Made, CommitBy, Operates}
-use Rattle.growth.proofs.Made.{legal-made, keys-after, read-exists, wrote-after, read-after, stored-after, stored-not-new, client-kept, client-new, session-kept, session-new}
+use Rattle.store.proofs.Links.{stored-below}
+use Rattle.growth.specs.Made.{Made, CommitBy}
+use Rattle.growth.proofs.Made.{legal-made, keys-after, number-after, read-exists, wrote-after, read-after, client-kept, client-new, session-kept, session-new}
 use Rattle.growth.specs.Ordered.{Ordered}
 
 -- ---- what follows from it
@@ -44,14 +44,14 @@ module _ (s : Store) (h : SoundStore s) (o : Ordered s) where
 
   -- SO is the order of numbers among the commits of a client
   pub SO-by-number : (a b : CommitNumber) → SO (history s) a b ↔ (CommitBy (history s) (s .clientOf b) a × CommitBy (history s) (s .clientOf b) b × (a < b))
-  SO-by-number a b = (out, λ ((x, p, e), (y, q, _), l). session-order x y p q e (o .sessions-rise a b x y p q e l))
+  SO-by-number a b = (out, λ ((x, p, e), (y, q, _), l). session-order x y p q e (o .sessions-rise a b p l (stored-below s h b y) e))
     where
       out : SO (history s) a b → CommitBy (history s) (s .clientOf b) a × CommitBy (history s) (s .clientOf b) b × (a < b)
       out (session-order x y p q e l) = ((x, p, e), (y, q, refl), less (decLt a b) (decLt b a))
         where
           less : Dec (a < b) → Dec (b < a) → a < b
           less (yes r) d = r
-          less (no r) (yes r′) = let l′ : s .sessionOf b < s .sessionOf a = o .sessions-rise b a y x q p (sym e) r′ in absurd (omega arith)
+          less (no r) (yes r′) = let l′ : s .sessionOf b < s .sessionOf a = o .sessions-rise b a q r′ (stored-below s h a x) (sym e) in absurd (omega arith)
           less (no r) (no r′) = let z : s .sessionOf a ≡ s .sessionOf b = ap (s .sessionOf) (omega arith) in absurd (omega arith)
 
   pub SO-rises : (a b : CommitNumber) → SO (history s) a b → a < b
@@ -93,7 +93,7 @@ path-avoids-opening {S} none {a} {b} p (more {b = c} r q) = more (p, r) (path-av
 pub ordered-opening : (keys : ℕ) → Ordered (openingStore keys)
 unfolding opening openingStore
 ordered-opening keys = record {
-  sessions-rise = λ a b x y p q e l. let n : a < 1 = stored-below (openingStore keys) sound a x in absurd (omega arith);
+  sessions-rise = λ a b p l n e. absurd (omega arith);
   first-by-opening = λ k l.
       let p : 0 < count (openingStore keys) k = sound .some-version k l in
       let w : version (openingStore keys) k 0 .writer < 1 = sound .writers (version (openingStore keys) k 0 .writer) k 0 (p, refl) in
@@ -109,25 +109,22 @@ ordered-opening keys = record {
 
 pub ordered-commit : (s : Store) (u : View) (c : Commit) → Made s u c → Ordered s → Ordered (update s u c)
 ordered-commit s u c m o = record {
-  sessions-rise = λ a b x y p q e l. session a b p q e l (stored-after s u c m a .0 x) (stored-after s u c m b .0 y);
+  sessions-rise = λ a b p l n e. session a b p l n e (ℕ-discrete b (nextNumber s));
   first-by-opening = λ k l. wrote-stays s u c 0 k 0 (o .first-by-opening k (rw (← keys-after s u c m) l));
   writers-rise = λ a b k i j w v l. writer a b k i j l (wrote-after s u c m a k i .0 w) (wrote-after s u c m b k j .0 v);
   readers-follow = λ a b k i w r. reader a b k i (wrote-after s u c m a k i .0 w) (read-after s u c m b k i .0 r);
 }
   where
-    session : (a b : CommitNumber) → 0 < a → 0 < b → update s u c .clientOf a ≡ update s u c .clientOf b → a < b
-        → Stored (history s) a ⊎ ((a ≡ nextNumber s) × Operates c) → Stored (history s) b ⊎ ((b ≡ nextNumber s) × Operates c)
+    session : (a b : CommitNumber) → 0 < a → a < b → b < nextNumber (update s u c) → update s u c .clientOf a ≡ update s u c .clientOf b → Dec (b ≡ nextNumber s)
         → update s u c .sessionOf a < update s u c .sessionOf b
-    session a b p q e l (inl x) (inl y) =
-        let na = stored-not-new s u c m x in
-        let nb = stored-not-new s u c m y in
-        rw (session-kept s u c m na, session-kept s u c m nb) (o .sessions-rise a b x y p q (sym (client-kept s u c m na) ∙ e ∙ client-kept s u c m nb) l)
-    session a b p q e l (inl x) (inr (z, _)) =
-        let na = stored-not-new s u c m x in
+    session a b p l n e (yes z) =
+        let na : a ≢ nextNumber s = λ q. omega arith in
         let by : s .clientOf a ≡ c .client = sym (client-kept s u c m na) ∙ e ∙ ap (update s u c .clientOf) z ∙ client-new s u c m in
-        rw (session-kept s u c m na, z, session-new s u c m) (m .newer a (appears-stored s a .1 x) p by)
-    session a b p q e l (inr (z, _)) (inl y) = let k : b < nextNumber s = stored-below s (m .sound) b y in absurd (omega arith)
-    session a b p q e l (inr (z, _)) (inr (z′, _)) = absurd (omega arith)
+        rw (session-kept s u c m na, z, session-new s u c m) (m .newer a (p, omega arith, by))
+    session a b p l n e (no nb) =
+        let below : b < nextNumber s = omega (arith, number-after s u c m) in
+        let na : a ≢ nextNumber s = λ q. omega arith in
+        rw (session-kept s u c m na, session-kept s u c m nb) (o .sessions-rise a b p l below (sym (client-kept s u c m na) ∙ e ∙ client-kept s u c m nb))
 
     writer : (a b k i j : ℕ) → i < j → Wrote s a k i ⊎ ((a ≡ nextNumber s) × T (writes c k) × (i ≡ count s k))
         → Wrote s b k j ⊎ ((b ≡ nextNumber s) × T (writes c k) × (j ≡ count s k)) → a < b

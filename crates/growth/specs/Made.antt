@@ -6,7 +6,7 @@ use lib.Dec.{T}
 use Rattle.dependencies.specs.History.{History, Stored}
 use Rattle.store.specs.Store.{Key, VersionNumber, CommitNumber, Client, View, Store, Commit}
 use Rattle.store.specs.Update.{reads, writes}
-use Rattle.store.specs.History.{Appears}
+use Rattle.store.specs.History.{InLog}
 use Rattle.store.specs.View.{IsView}
 use Rattle.store.specs.Sound.{SoundStore, WithinKeys}
 
@@ -15,8 +15,8 @@ pub record Made (s : Store) (u : View) (c : Commit) : Type 0 where
   pub sound : SoundStore s
   pub view : IsView s u
   pub fits : WithinKeys (s .keys) c
-  -- "Its session number is above every number of that client that appears in the store as writer or reader."
-  pub newer : (t : CommitNumber) → Appears s t → 0 < t → s .clientOf t ≡ c .client → s .sessionOf t < c .session
+  -- its session number is above "every earlier number of that client in the trace, operations or none" (02, E7)
+  pub newer : (t : CommitNumber) → InLog s (c .client) t → s .sessionOf t < c .session
 
 -- the commit has an operation; it has a write
 abbrev pub Operates : Commit → Type 0

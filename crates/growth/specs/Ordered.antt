@@ -2,14 +2,12 @@
 -- that a taken trace makes (crates/growth/proofs/Ordered.antt). Assumes nothing.
 use Prim.Native.Nat.{ℕ, _<_}
 use mathlib.Core.Path.{_≡_}
-use Rattle.dependencies.specs.History.{Stored}
-use Rattle.store.specs.Store.{Key, CommitNumber, Store}
-use Rattle.store.specs.History.{Wrote, Read, history}
+use Rattle.store.specs.Store.{Key, CommitNumber, Store, nextNumber}
+use Rattle.store.specs.History.{Wrote, Read}
 
 pub record Ordered (s : Store) : Type 0 where
-  -- of two commits of a client in the store the later has the larger session number
-  pub sessions-rise : (a b : CommitNumber) → Stored (history s) a → Stored (history s) b → 0 < a → 0 < b → s .clientOf a ≡ s .clientOf b
-      → a < b → s .sessionOf a < s .sessionOf b
+  -- of two commits of a client, with operations or without, the later has the larger session number; so no two entries of the log have equal client and number
+  pub sessions-rise : (a b : CommitNumber) → 0 < a → a < b → b < nextNumber s → s .clientOf a ≡ s .clientOf b → s .sessionOf a < s .sessionOf b
   -- version 0 is by the opening transaction
   pub first-by-opening : (k : Key) → k < s .keys → Wrote s 0 k 0
   -- later versions of a key are by later commits

@@ -14,8 +14,7 @@ use Rattle.dependencies.specs.History.{History, Stored, SO, session-order, WR, 
 use Rattle.store.specs.Limits.{maxKeys, maxClients}
 use Rattle.store.specs.Store.{View, Store, nextNumber, Commit}
 use Rattle.store.specs.Update.{update}
-use Rattle.store.specs.History.{history}
-use Rattle.store.proofs.Links.{appears-stored}
+use Rattle.store.specs.History.{InLog, history}
 use Rattle.growth.specs.Made.{Made, Operates, CommitBy}
 use Rattle.growth.proofs.Made.{stored-not-new, new-not-stored, number-after, client-kept, client-new, session-kept, session-new, commit-by-after}
 use Rattle.growth.specs.Links.{FromSession, FromRead}
@@ -35,7 +34,7 @@ module _ (s : Store) (u : View) (c : Commit) (m : Made s u c) where
 
   -- a session number is not above those of the client
   abbrev Taken : Store → ℕ → ℕ → Type 0
-  Taken r d x = (t : ℕ) × CommitOf r d t × (x ≤ r .sessionOf t)
+  Taken r d x = (t : ℕ) × InLog r d t × (x ≤ r .sessionOf t)
 
   old-not-new : {d t : ℕ} → CommitOf s d t → t ≢ me
   old-not-new x = stored-not-new s u c m (x .0)
@@ -47,8 +46,30 @@ module _ (s : Store) (u : View) (c : Commit) (m : Made s u c) where
   keep-commit : (d t : ℕ) → CommitOf s d t → CommitOf s′ d t
   keep-commit d t x = commit-by-after s u c m d t .1 (inl x)
 
-  keep-taken : (d x : ℕ) → Taken s d x → Taken s′ d x
-  keep-taken d x (t, y, l) = (t, keep-commit d t y, let e = session-kept s u c m (old-not-new y) in omega arith)
+  -- the numbers of another client stay
+  same-taken : (d : ℕ) → c .client ≢ d → (x : ℕ) → Taken s d x ↔ Taken s′ d x
+  same-taken d other x = (
+    λ (t, (p, b, e), l). let n : t ≢ me = λ q. omega arith in (t, (p, omega (arith, number-after s u c m), client-kept s u c m n ∙ e), let k = session-kept s u c m n in omega arith),
+    λ (t, (p, b, e), l). back t p b e l (ℕ-discrete t me),
+  )
+    where
+      back : (t : ℕ) → 0 < t → t < nextNumber s′ → s′ .clientOf t ≡ d → x ≤ s′ .sessionOf t → Dec (t ≡ me) → Taken s d x
+      back t p b e l (yes q) = absurd (other (sym (client-new s u c m) ∙ ap (s′ .clientOf) (sym q) ∙ e))
+      back t p b e l (no n) = (t, (p, omega (arith, number-after s u c m), sym (client-kept s u c m n) ∙ e), let k = session-kept s u c m n in omega arith)
+
+  -- those of its own client are below its number, which is one of them now, operations or none
+  more-taken : (x : ℕ) → (x < c .session + 1) ↔ Taken s′ (c .client) x
+  more-taken x = (
+    λ l. (me, (omega arith, omega (arith, number-after s u c m), client-new s u c m), let k = session-new s u c m in omega arith),
+    λ (t, (p, b, e), l). out t p b e l (ℕ-discrete t me),
+  )
+    where
+      out : (t : ℕ) → 0 < t → t < nextNumber s′ → s′ .clientOf t ≡ c .client → x ≤ s′ .sessionOf t → Dec (t ≡ me) → x < c .session + 1
+      out t p b e l (yes q) = let k : s′ .sessionOf t ≡ c .session = ap (s′ .sessionOf) q ∙ session-new s u c m in omega arith
+      out t p b e l (no n) =
+          let k = session-kept s u c m n in
+          let less : s .sessionOf t < c .session = m .newer t (p, omega (arith, number-after s u c m), sym (client-kept s u c m n) ∙ e) in
+          omega arith
 
   -- a client that gains no commit keeps all of it
   module _ (d : ℕ) (none : ¬ (Operates c × (c .client ≡ d))) where
@@ -68,9 +89,6 @@ module _ (s : Store) (u : View) (c : Commit) (m : Made s u c) where
         go : ReadByClient (history s) d w ⊎ ((c .client ≡ d) × FromRead s u c w) → ReadByClient (history s) d w
         go (inl y) = y
         go (inr (e, (k, r, q))) = absurd (none ((k, inl r), e))
-
-    same-taken : (x : ℕ) → Taken s d x ↔ Taken s′ d x
-    same-taken x = (keep-taken d x, λ (t, y, l). let z = old-commit t y in (t, z, (let e = session-kept s u c m (old-not-new z) in omega arith)))
 
   -- the client of the commit gains it, what it reads from, and its number
   module _ (o : Operates c) where
@@ -98,19 +116,6 @@ module _ (s : Store) (u : View) (c : Commit) (m : Made s u c) where
         out : ReadByClient (history s) (c .client) w ⊎ ((c .client ≡ c .client) × FromRead s u c w) → ReadByClient (history s) (c .client) w ⊎ FromRead s u c w
         out (inl x) = inl x
         out (inr (_, x)) = inr x
-
-    more-taken : (x : ℕ) → (x < c .session + 1) ↔ Taken s′ (c .client) x
-    more-taken x = (λ l. (me, new-commit, (let e = session-new s u c m in omega arith)), out)
-      where
-        out : Taken s′ (c .client) x → x < c .session + 1
-        out (t, y, l) = go (commit-by-after s u c m (c .client) t .0 y)
-          where
-            go : CommitBy (history s) (c .client) t ⊎ ((t ≡ me) × Operates c × (c .client ≡ c .client)) → x < c .session + 1
-            go (inl z) =
-                let n : s .sessionOf t < c .session = m .newer t (appears-stored s t .1 (z .0)) (z .1) (z .2) in
-                let e = session-kept s u c m (old-not-new z) in
-                omega arith
-            go (inr (e, _, _)) = let n : s′ .sessionOf t ≡ c .session = ap (s′ .sessionOf) e ∙ session-new s u c m in omega arith
 
   -- ---- the log
 
@@ -186,17 +191,26 @@ moved : {P : ℕ → Type 0} (x y : ℕ) → y ≡ x → IsSet x P → IsSet y P
 moved {P} x y e h = subst (λ (m : ℕ). IsSet m P) (sym e) h
 
 module _ (s : Store) (u : View) (c : Commit) (m : Made s u c) where
-  -- a commit without operations leaves the sessions as they are
-  pub idle-sessions : ¬ Operates c → (l : List ℕ) → KeepsSessions s l → KeepsSessions (update s u c) l
-  idle-sessions n l h = record {
-    room = h .room;
-    commits-of = λ d b. isSet-as _ (same-commits s u c m d (idle d)) (h .commits-of d b);
-    drawn = λ d b. isSet-as _ (same-drawn s u c m d (idle d)) (h .drawn d b);
-    bar = λ d b x. both (h .bar d b x) (same-taken s u c m d (idle d) x);
+  -- a commit without operations leaves the sessions as they are, and its number is taken
+  pub idle-sessions : ¬ Operates c → (l : List ℕ) → KeepsSessions s l → (d : ℕ) → c .client ≡ d → d < maxClients → KeepsSessions (update s u c) (set l (barPlace d) (c .session + 1))
+  idle-sessions n l h d own less = record {
+    room = length-set l (barPlace d) (c .session + 1) ∙ h .room;
+    commits-of = λ e b. moved _ _ (getD-set-other l (barPlace d) e (c .session + 1) 0 (λ q. omega arith)) (isSet-as _ (same-commits s u c m e (idle e)) (h .commits-of e b));
+    drawn = λ e b. moved _ _ (getD-set-other l (barPlace d) (drawnPlace e) (c .session + 1) 0 (λ q. omega arith)) (isSet-as _ (same-drawn s u c m e (idle e)) (h .drawn e b));
+    bar = λ e b x. bar e b x (ℕ-discrete e d);
   }
     where
-      idle : (d : ℕ) → ¬ (Operates c × (c .client ≡ d))
-      idle d (o, _) = n o
+      idle : (e : ℕ) → ¬ (Operates c × (c .client ≡ e))
+      idle e (o, _) = n o
+
+      bar : (e : ℕ) → e < maxClients → (x : ℕ) → Dec (e ≡ d) → (x < getD (set l (barPlace d) (c .session + 1)) (barPlace e) 0) ↔ ((t : ℕ) × InLog (update s u c) e t × (x ≤ update s u c .sessionOf t))
+      bar e b x (no q) =
+          let same-bar = getD-set-other l (barPlace d) (barPlace e) (c .session + 1) 0 (λ z. q (omega arith)) in
+          both (λ z. subst (λ (k : ℕ). x < k) same-bar z, λ z. subst (λ (k : ℕ). x < k) (sym same-bar) z) (both (h .bar e b x) (same-taken s u c m e (λ z. q (sym z ∙ own)) x))
+      bar e b x (yes q) =
+          let new : getD (set l (barPlace d) (c .session + 1)) (barPlace e) 0 ≡ c .session + 1 = ap (λ (k : ℕ). getD (set l (barPlace d) (c .session + 1)) (barPlace k) 0) q ∙ getD-set-same l (barPlace d) (c .session + 1) 0 (omega (arith, h .room)) in
+          subst (λ (k : ℕ). (x < getD (set l (barPlace d) (c .session + 1)) (barPlace e) 0) ↔ ((t : ℕ) × InLog (update s u c) k t × (x ≤ update s u c .sessionOf t))) (own ∙ sym q)
+          (both (λ z. subst (λ (k : ℕ). x < k) new z, λ z. subst (λ (k : ℕ). x < k) (sym new) z) (more-taken s u c m x))
 
   module _ (l : List ℕ) (h : KeepsSessions s l) (d : ℕ) (own : c .client ≡ d) (b : d < maxClients) (o : Operates c) (sources : ℕ) (from : IsSet sources (FromRead s u c)) where
     abbrev x : ℕ
@@ -245,14 +259,14 @@ module _ (s : Store) (u : View) (c : Commit) (m : Made s u c) where
             let set = isSet-union (getD l (maxClients + d) 0) sources (subst (λ (k : ℕ). IsSet (getD l (maxClients + d) 0) (ReadByClient (history s) k)) (sym own) (h .drawn d b)) from in
             moved _ _ second (subst (λ (k : ℕ). IsSet y (ReadByClient (history (update s u c)) k)) (own ∙ sym q) (isSet-as y (more-drawn s u c m o) set))
 
-        bar : (e : ℕ) → e < maxClients → (v : ℕ) → Dec (e ≡ d) → (v < getD settled (2 * maxClients + e) 0) ↔ ((t : ℕ) × CommitOf (update s u c) e t × (v ≤ update s u c .sessionOf t))
+        bar : (e : ℕ) → e < maxClients → (v : ℕ) → Dec (e ≡ d) → (v < getD settled (2 * maxClients + e) 0) ↔ ((t : ℕ) × InLog (update s u c) e t × (v ≤ update s u c .sessionOf t))
         bar e be v (no n) =
             let same-bar = at e (2 * maxClients + e) be n (inr (inr refl)) in
-            both (λ z. subst (λ (k : ℕ). v < k) same-bar z, λ z. subst (λ (k : ℕ). v < k) (sym same-bar) z) (both (h .bar e be v) (same-taken s u c m e (others e n) v))
+            both (λ z. subst (λ (k : ℕ). v < k) same-bar z, λ z. subst (λ (k : ℕ). v < k) (sym same-bar) z) (both (h .bar e be v) (same-taken s u c m e (λ z. n (sym z ∙ own)) v))
         bar e be v (yes q) =
             let third : getD settled (2 * maxClients + e) 0 ≡ c .session + 1 = ap (λ (n : ℕ). getD settled (2 * maxClients + n) 0) q ∙ three-third l d (maxClients + d) (2 * maxClients + d) x y (c .session + 1) apart in
-            subst (λ (k : ℕ). (v < getD settled (2 * maxClients + e) 0) ↔ ((t : ℕ) × CommitOf (update s u c) k t × (v ≤ update s u c .sessionOf t))) (own ∙ sym q)
-            (both (λ z. subst (λ (k : ℕ). v < k) third z, λ z. subst (λ (k : ℕ). v < k) (sym third) z) (more-taken s u c m o v))
+            subst (λ (k : ℕ). (v < getD settled (2 * maxClients + e) 0) ↔ ((t : ℕ) × InLog (update s u c) k t × (v ≤ update s u c .sessionOf t))) (own ∙ sym q)
+            (both (λ z. subst (λ (k : ℕ). v < k) third z, λ z. subst (λ (k : ℕ). v < k) (sym third) z) (more-taken s u c m v))
 
 -- ---- the log
 

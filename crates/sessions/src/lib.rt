@@ -1,5 +1,5 @@
 // The sessions of the clients and the log of the commits, kept along the trace: what SO leads from to a client's next commit, and
-// the least session number that is free ("Its session number is above every number of that client", 01, Store and views).
+// the least session number that is free (above "every earlier number of that client in the trace, operations or none", 02, E7).
 use state::CommitNumber;
 ghost use mathlib.Core.Path.{_≡_};
 ghost use mathlib.Core.Bool.{true};
@@ -13,7 +13,7 @@ ghost use Rattle.growth.specs.Links.{FromRead};
 ghost use Rattle.state.specs.Room.{SessionsRoom, CommitsRoom};
 ghost use Rattle.state.specs.Keeps.{IsSet, KeepsSessions, KeepsCommits};
 
-// The commit `me` of a client stands in the log; where it has operations, it stands in its client's session too. `sources` are the
+// The commit `me` of a client stands in the log, and its number is taken; where it has operations, it stands in its client's session too. `sources` are the
 // writers of what it reads.
 pub fn settle(
     sessions: &mut [u64],
@@ -46,5 +46,7 @@ pub fn settle(
         sessions[state::BAR + client] = (session as u64) + 1;
         commits[state::BEFORE + t] = before;
         commits[state::READ_FROM + t] = drawn;
+    } else {
+        sessions[state::BAR + client] = 1 + (session as u64);
     }
 }

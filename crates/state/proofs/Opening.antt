@@ -16,7 +16,7 @@ use Rattle.dependencies.specs.History.{History, Stored, PlainLink, by-SO, by-WR
 use Rattle.dependencies.specs.History as D
 use Rattle.dependencies.proofs.Opening.{Opening, stored-is-0, no-plain}
 use Rattle.store.specs.Limits.{maxKeys, maxClients}
-use Rattle.store.specs.Store.{Version, openingVersion, Store, openingStore, opening, count, version}
+use Rattle.store.specs.Store.{Version, openingVersion, Store, openingStore, opening, count, version, nextNumber}
 use Rattle.store.specs.History.{Wrote, history, held}
 use Rattle.store.proofs.Sound.{opening-first, sound-opening}
 use Rattle.store.proofs.Opening.{opening-history}
@@ -104,6 +104,11 @@ module _ (keys : ℕ) where
   no-commit : (d t : ℕ) → ¬ CommitOf s d t
   no-commit d t (a, p, e) = let z : t ≡ 0 = stored-is-0 (history s) o a in omega arith
 
+  -- there is no commit yet, with operations or without
+  nobody : (t : ℕ) → 0 < t → ¬ (t < nextNumber s)
+  unfolding opening openingStore
+  nobody t p q = omega arith
+
   no-link : {a b : ℕ} → ¬ PlainLink (history s) a b
   no-link = no-plain (history s) o
 
@@ -112,7 +117,7 @@ module _ (keys : ℕ) where
     room = filled-length sessionsLength 0;
     commits-of = λ d b. nothing-in _ (zeros sessionsLength (commitsPlace d)) (no-commit d);
     drawn = λ d b. nothing-in _ (zeros sessionsLength (drawnPlace d)) (λ w (t, c, r). no-commit d t c);
-    bar = λ d b x. (λ l. let z = zeros sessionsLength (barPlace d) in absurd (omega arith), λ (t, c, l). absurd (no-commit d t c));
+    bar = λ d b x. (λ l. let z = zeros sessionsLength (barPlace d) in absurd (omega arith), λ (t, (p, q, _), l). absurd (nobody t p q));
   }
 
   keeps-commits : KeepsCommits s (filled commitsLength 0)

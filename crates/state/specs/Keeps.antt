@@ -14,7 +14,7 @@ use Rattle.dependencies.specs.History as D
 use Rattle.store.specs.Limits.{maxClients}
 use Rattle.store.specs.Store.{Key, CommitNumber, Client, SessionNumber, View, Store, Configuration, count, version, nextNumber, read, write, Commit}
 use Rattle.store.specs.Update.{valueOf}
-use Rattle.store.specs.History.{Wrote, Read, history, held}
+use Rattle.store.specs.History.{Wrote, Read, InLog, history, held}
 use Rattle.growth.specs.Sessions.{ReadUpTo}
 use Rattle.state.specs.Places.{numbers, headPlace, readersPlace, fullPlace, writersPlace, viewPlace, commitsPlace, drawnPlace, barPlace, logPlace, beforePlace, readPlace, linkPlace, leadPlace, packed}
 use Rattle.state.specs.Room.{VersionsRoom, KeysRoom, ViewsRoom, SeenRoom, SessionsRoom, CommitsRoom, LinksRoom, FreshRoom, ValuesRoom}
@@ -66,8 +66,8 @@ pub record KeepsSessions (s : Store) (sessions : List ℕ) : Type 0 where
   pub room : SessionsRoom sessions
   pub commits-of : (d : Client) → d < maxClients → IsSet (getD sessions (commitsPlace d) 0) (CommitOf s d)
   pub drawn : (d : Client) → d < maxClients → IsSet (getD sessions (drawnPlace d) 0) (λ w. (t : ℕ) × CommitOf s d t × D.WR (history s) w t)
-  -- a session number is below the bar exactly where it is not above every number of the client
-  pub bar : (d : Client) → d < maxClients → (x : SessionNumber) → (x < getD sessions (barPlace d) 0) ↔ ((t : ℕ) × CommitOf s d t × (x ≤ s .sessionOf t))
+  -- a session number is below the bar exactly where it is not above every number of the client, of commits with operations and without
+  pub bar : (d : Client) → d < maxClients → (x : SessionNumber) → (x < getD sessions (barPlace d) 0) ↔ ((t : ℕ) × InLog s d t × (x ≤ s .sessionOf t))
 
 pub record KeepsCommits (s : Store) (commits : List ℕ) : Type 0 where
   pub room : CommitsRoom commits

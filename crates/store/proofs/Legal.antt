@@ -19,7 +19,7 @@ use Rattle.store.specs.Update.{valueOf, reads, writes, touches, newest, 
 use Rattle.store.specs.Missing.{Place, missing}
 use Rattle.store.specs.Links.{wrote, hasRead, somewhere, stored, holds}
 use Rattle.store.specs.Refusal.{Refusal, refuse, refuseKey, refusePlace, notAbove, oldNumber, differs, wrongAt, wrongRead, badMaskAt, badMask, wholeWriters, halfHeld, allOf, lost, strayAt, stray, refusesEvent}
-use Rattle.store.specs.History.{Wrote, Read, Appears}
+use Rattle.store.specs.History.{Wrote, Read, Appears, InLog}
 use Rattle.store.specs.View.{IsView, FitsView}
 use Rattle.store.specs.Sound.{SoundStore, Sound, WithinKeys}
 use Rattle.store.specs.Legal.{LegalShift, LegalCommit}
@@ -137,24 +137,23 @@ module _ (g : Configuration) (c : Commit) (h : Sound g) (f : WithinKeys (g .stor
   u = viewBefore g c
 
   abbrev pub Newer : Type 0
-  Newer = (t : CommitNumber) → Appears s t → 0 < t → s .clientOf t ≡ c .client → s .sessionOf t < c .session
+  Newer = (t : CommitNumber) → InLog s (c .client) t → s .sessionOf t < c .session
 
   pub newer-is : (¬ T (oldNumber s c)) ↔ Newer
   unfolding oldNumber
   newer-is = (
-    λ n t a p e. go t a p e n (decLt (s .sessionOf t) (c .session)),
-    λ w x. let y = old .0 x in let l : s .sessionOf (y .0) < c .session = w (y .0) (y .2 .0 .0) (y .2 .0 .1) (y .2 .1 .0) in let q : c .session ≤ s .sessionOf (y .0) = y .2 .1 .1 in omega arith,
+    λ n t x. go t x n (decLt (s .sessionOf t) (c .session)),
+    λ w x. let y = old .0 x in let l : s .sessionOf (y .0) < c .session = w (y .0) (y .2 .0, y .1, y .2 .1 .0) in let q : c .session ≤ s .sessionOf (y .0) = y .2 .1 .1 in omega arith,
   )
     where
-      old : T (any (nextNumber s) (notAbove s c)) ↔ ((t : CommitNumber) × (t < nextNumber s) × ((Appears s t × (0 < t)) × ((s .clientOf t ≡ c .client) × (c .session ≤ s .sessionOf t))))
+      old : T (any (nextNumber s) (notAbove s c)) ↔ ((t : CommitNumber) × (t < nextNumber s) × ((0 < t) × ((s .clientOf t ≡ c .client) × (c .session ≤ s .sessionOf t))))
       old = any-is (nextNumber s) (notAbove s c) (λ t.
-          and-is (stored s t && ltb 0 t) (eqb (s .clientOf t) (c .client) && leb (c .session) (s .sessionOf t))
-          (and-is (stored s t) (ltb 0 t) (stored-is s (h .store) t) (lt-is 0 t))
+          and-is (ltb 0 t) (eqb (s .clientOf t) (c .client) && leb (c .session) (s .sessionOf t)) (lt-is 0 t)
           (and-is (eqb (s .clientOf t) (c .client)) (leb (c .session) (s .sessionOf t)) (eq-is _ _) (le-is _ _)))
 
-      go : (t : CommitNumber) → Appears s t → 0 < t → s .clientOf t ≡ c .client → ¬ T (any (nextNumber s) (notAbove s c)) → Dec (s .sessionOf t < c .session) → s .sessionOf t < c .session
-      go t a p e n (yes l) = l
-      go t a p e n (no m) = absurd (n (old .1 (t, appears-lt s (h .store) t a, ((a, p), (e, omega arith)))))
+      go : (t : CommitNumber) → InLog s (c .client) t → ¬ T (any (nextNumber s) (notAbove s c)) → Dec (s .sessionOf t < c .session) → s .sessionOf t < c .session
+      go t x n (yes l) = l
+      go t (p, l, e) n (no m) = absurd (n (old .1 (t, l, (p, (e, omega arith)))))
 
   abbrev Values : Type 0
   Values = (k x : ℕ) → valueOf read (c .operations) k ≡ some x → x ≡ version s k (newest u k) .value

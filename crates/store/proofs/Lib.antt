@@ -3,6 +3,7 @@ pub mod Sound
 pub mod Missing
 pub mod Misses
 pub mod Legal
+pub mod Numbers
 pub mod Links
 pub mod Run
 pub mod Opening

@@ -6,7 +6,7 @@ use mathlib.Core.Logic.{_⊎_}
 use lib.Dec.{T}
 use Rattle.sets.specs.Set.{has}
 use Rattle.dependencies.specs.History.{History, Held}
-use Rattle.store.specs.Store.{Key, VersionNumber, CommitNumber, View, Store, count, version}
+use Rattle.store.specs.Store.{Key, VersionNumber, CommitNumber, Client, View, Store, count, version, nextNumber}
 
 -- commit t wrote, or read, version i of key k
 abbrev pub Wrote : Store → CommitNumber → Key → VersionNumber → Type 0
@@ -18,6 +18,10 @@ Read s t k i = (i < count s k) × T (has (version s k i .readers) t)
 -- the commit t "appears in the store as writer or reader"
 abbrev pub Appears : Store → CommitNumber → Type 0
 Appears s t = (k : Key) × (i : VersionNumber) × (i < count s k) × ((version s k i .writer ≡ t) ⊎ T (has (version s k i .readers) t))
+
+-- t is a commit of client d, with operations or without
+abbrev pub InLog : Store → Client → CommitNumber → Type 0
+InLog s d t = (0 < t) × (t < nextNumber s) × (s .clientOf t ≡ d)
 
 -- the history of a store
 abbrev pub history : Store → History

@@ -7,7 +7,7 @@ use lib.Dec.{T}
 use Rattle.sets.specs.Set.{has}
 use Rattle.store.specs.Store.{Key, CommitNumber, Client, View, Store, Configuration, version, read, Commit}
 use Rattle.store.specs.Update.{valueOf, reads, writes, newest, viewBefore, storeAfter}
-use Rattle.store.specs.History.{Appears}
+use Rattle.store.specs.History.{InLog}
 use Rattle.store.specs.View.{IsView}
 
 -- "A shift replaces a client's view by one that holds at least as much at every key; an equal one is allowed."
@@ -17,8 +17,8 @@ pub record LegalShift (g : Configuration) (d : Client) (u : View) : Type 0 where
 
 -- a commit that the store takes
 pub record LegalCommit (g : Configuration) (c : Commit) : Type 0 where
-  -- 1. "Its session number is above every number of that client that appears in the store as writer or reader."
-  pub newer : (t : CommitNumber) → Appears (g .store) t → 0 < t → g .store .clientOf t ≡ c .client → g .store .sessionOf t < c .session
+  -- 1. its session number is above "every earlier number of that client in the trace, operations or none" (02, E7)
+  pub newer : (t : CommitNumber) → InLog (g .store) (c .client) t → g .store .sessionOf t < c .session
   -- 2. "Each read's value is that of the newest version that u holds of its key."
   pub values : (k x : ℕ) → valueOf read (c .operations) k ≡ some x → x ≡ version (g .store) k (newest (viewBefore g c) k) .value
   -- 4. "The view after, u', is a view of the new store, and differs from u only at keys with an operation."

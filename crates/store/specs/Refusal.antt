@@ -10,7 +10,7 @@ use Rattle.sets.specs.Set.{Set, has, width}
 use Rattle.store.specs.Store.{Key, VersionNumber, CommitNumber, Client, Value, Version, View, Store, Configuration, count, version, nextNumber, read, write, Commit, Event, shift, commit}
 use Rattle.store.specs.Update.{valueOf, touches, newest, viewBefore, storeAfter}
 use Rattle.store.specs.Missing.{Place, Rule, missing}
-use Rattle.store.specs.Links.{stored, holds}
+use Rattle.store.specs.Links.{holds}
 
 -- "A refusal returns number, record, key, version (0 where not named)"
 pub record Refusal : Type 0 where
@@ -29,10 +29,11 @@ refuseKey code n k = record { code = code; atRecord = n; key = k; version = 0 }
 abbrev pub refusePlace : ℕ → ℕ → Place → Refusal
 refusePlace code n p = record { code = code; atRecord = n; key = p .key; version = p .version }
 
--- ---- rule 1: "Its session number is above every number of that client that appears in the store as writer or reader."
+-- ---- rule 1, as 02 amends it (E7): its number is above "every earlier number of that client in the trace, operations or none"
 
+-- commit t is an earlier one of its client, and the number is not above that of t
 abbrev pub notAbove : Store → Commit → CommitNumber → Bool
-notAbove s c t = (stored s t && ltb 0 t) && (eqb (s .clientOf t) (c .client) && leb (c .session) (s .sessionOf t))
+notAbove s c t = ltb 0 t && (eqb (s .clientOf t) (c .client) && leb (c .session) (s .sessionOf t))
 
 -- code 9: "session number too small"
 unfoldable pub oldNumber : Store → Commit → Bool

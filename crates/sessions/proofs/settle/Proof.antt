@@ -1,13 +1,16 @@
 -- The arrays after a commit keep the store after it (proofs/Settled.antt).
 use borrow.Author.Needs.{needs}
-use Prim.Native.Nat.{ℕ, _<_}
+use Prim.Native.Nat.{ℕ, _+_, _<_}
 use native.Mathlib.Omega.{arith}
-use mathlib.Core.Path.{_≡_, sym, _∙_}
+use mathlib.Core.Path.{_≡_, sym, _∙_, subst}
 use mathlib.Core.Bool.{Bool, true, false}
 use mathlib.Core.Logic.{_↔_}
 use mathlib.Core.List.{[]}
-use lib.ListN.{length-set}
+use lib.ListN.{set, length-set}
 use Rattle.store.specs.Store.{Commit}
+use Rattle.store.specs.Update.{update}
+use Rattle.state.specs.Places.{barPlace}
+use Rattle.state.specs.Keeps.{KeepsSessions}
 use Rattle.growth.specs.Made.{Operates}
 use Rattle.store.specs.Limits.{maxClients, numbers}
 use Rattle.sessions.proofs.Settled.{idle-sessions, sessions-settled, commits-settled, commits-idle}
@@ -92,6 +95,18 @@ mul-commits-4 c = search needs
 slice-write-commits-3 : tie.Need-slice-write-commits-3
 slice-write-commits-3 c = simp length-set (omega (arith, c .before .before .before .before .before .before .before .pre))
 
+add-sessions-4 : tie.Need-add-sessions-4
+add-sessions-4 c = search needs
+
+add-sessions-5 : tie.Need-add-sessions-5
+add-sessions-5 c = search needs
+
+mul-sessions-4 : tie.Need-mul-sessions-4
+mul-sessions-4 c = search needs
+
+slice-write-sessions-4 : tie.Need-slice-write-sessions-4
+slice-write-sessions-4 c = search needs
+
 same-length : tie.Need-same-length
 same-length c = search needs
 
@@ -117,12 +132,18 @@ returns c =
 same-length-3 : tie.Need-same-length-3
 same-length-3 c = search needs
 
+same-length-4 : tie.Need-same-length-4
+same-length-4 c = search needs
+
 returns-2 : tie.Need-returns-2
 returns-2 c =
     let b = c .before .before .before in
+    let less : b .args .client < maxClients = b .pre .2 in
     let few : b .args .me .0 < numbers = b .pre .3 in
     let idle : (k : Commit) → (b .args .operates ≡ true) ↔ Operates k → ¬ Operates k = λ k op o. false-true (sym (c .if1 .left) ∙ op .1 o) in (
-      λ s u k m number client session op from h. idle-sessions s u k m (idle k op) (b .args .sessions .now) h,
+      λ s u k m number client session op from h. let same : k .session + 1 ≡ 1 + b .args .session = omega arith in
+          subst (λ (v : ℕ). KeepsSessions (update s u k) (set (b .args .sessions .now) (barPlace (b .args .client)) v)) same
+          (idle-sessions s u k m (idle k op) (b .args .sessions .now) h (b .args .client) client less),
       λ s u k m number client session op from h r.
           commits-idle s u k m (b .args .me .0) (b .args .client) (b .args .session) number client session few (idle k op) (b .args .commits .now) r,
     )
@@ -160,8 +181,13 @@ settle-spec =
     add-commits-3
     mul-commits-4
     slice-write-commits-3
+    add-sessions-4
+    add-sessions-5
+    mul-sessions-4
+    slice-write-sessions-4
     same-length
     same-length-2
     returns
     same-length-3
+    same-length-4
     returns-2)
