@@ -292,6 +292,7 @@ impl<const WIDTH: usize> Workspace<WIDTH> {
 
         // The commit takes its place in its session and in the links.
         client.view = *fresh;
+        client.bar = u64::from(session) + 1;
         if operates {
             client.add(me, &commit);
         }
@@ -332,7 +333,6 @@ impl<const WIDTH: usize> Client<WIDTH> {
     fn add(&mut self, me: usize, commit: &Commit) {
         self.stored |= 1 << me;
         self.drawn = commit.drawn;
-        self.bar = u64::from(commit.session) + 1;
     }
 }
 

@@ -1,6 +1,6 @@
-//! Section "Traces from the bench", the example traces A to K, and trace L of
-//! request E4, with the answers that the papers give, or that follow from them
-//! where they say "the rest".
+//! Section "Traces from the bench", the example traces A to K, the last of I as
+//! request E7 amends it, and trace L of request E4, with the answers that the
+//! papers give, or that follow from them where they say "the rest".
 
 use crate::by_hand::{self, commit, read, shift};
 use crate::levels::place_of;
@@ -114,7 +114,7 @@ fn h_to_k() -> Vec<ExampleTrace> {
         whole(
             "I, number 0 twice, the first one empty",
             trace_i_empty(),
-            judged(&[]),
+            code(9, 2, 0, 0),
         ),
         ExampleTrace {
             name: "J, B cut to 79 bytes",

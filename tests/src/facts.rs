@@ -154,6 +154,32 @@ pub fn demand_3_holds(taken: &Taken) -> Result<(), String> {
     replay_holds(taken)
 }
 
+/// The numbers of a client rise along the trace, over all its commits.
+pub fn numbers_rise(store: &Store) -> Result<(), String> {
+    for (place, earlier) in store.authors.iter().enumerate() {
+        for later in &store.authors[place + 1..] {
+            if earlier.client == later.client && earlier.session >= later.session {
+                return Err(format!("{later:?} behind {earlier:?}"));
+            }
+        }
+    }
+    Ok(())
+}
+
+/// No two entries of the log in an image have equal client and number.
+pub fn entries_differ(image: &[u8]) -> Result<(), String> {
+    let commits = usize::from(image[5]);
+    let entries: Vec<&[u8]> = image[8..].chunks(8).take(commits).collect();
+    let different: BTreeSet<(u8, &[u8])> = entries
+        .iter()
+        .map(|entry| (entry[0], &entry[4..]))
+        .collect();
+    if different.len() != entries.len() {
+        return Err("two entries of the log are alike".to_string());
+    }
+    Ok(())
+}
+
 /// The trace and its run, if none of codes 1 to 14 is due.
 pub fn taken(file: &[u8]) -> Option<(Trace, Run)> {
     let trace = form::read(file).ok()?;

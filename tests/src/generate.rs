@@ -1,11 +1,12 @@
-//! Seeded test files: taken traces of many styles, files planted with one
-//! fault or with several, and spoiled bytes. The same seed gives the same
+//! Seeded test files: taken traces of many styles, traces about the numbers of
+//! one client, files planted with one fault or with several, and spoiled bytes. The same seed gives the same
 //! file. What a file is known to be answered with comes along with it, found
 //! from how it was made and not by judging it.
 
 pub mod edges;
 pub mod editions;
 pub mod mangled;
+pub mod numbers;
 pub mod pieces;
 pub mod planted;
 pub mod session;
@@ -14,6 +15,7 @@ pub mod taken;
 pub use edges::{edge_case, EDGES};
 pub use editions::{growing_case, mixed, GROWING};
 pub use mangled::{mangled, record_places};
+pub use numbers::numbers_case;
 pub use pieces::{pieces, script, Script};
 pub use planted::{competing, planted};
 pub use session::build_session;
@@ -63,10 +65,11 @@ impl Case {
 }
 
 /// Every kind of a case.
-pub const KINDS: [&str; 17] = [
+pub const KINDS: [&str; 18] = [
     "taken",
     "path",
     "session",
+    "numbers",
     "largest",
     "full",
     "overfull",
@@ -98,7 +101,8 @@ pub enum Expected {
 pub fn case(seed: u64) -> Case {
     let mut random = Random::seeded(seed);
     match random.below(1000) {
-        0..=449 => taken_case(&mut random),
+        0..=429 => taken_case(&mut random),
+        430..=449 => numbers_case(&mut random),
         450..=638 => {
             let code = random.between(1, 14) as u8;
             let (bytes, refusal) = planted(&mut random, code);

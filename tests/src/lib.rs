@@ -23,6 +23,7 @@ pub mod generate;
 pub mod image;
 pub mod levels;
 pub mod met;
+pub mod numbers;
 pub mod own_writes;
 pub mod port;
 #[cfg(feature = "proved")]

@@ -6,9 +6,10 @@ mod editions;
 use crate::facts;
 use crate::generate::{case, record_places, Case, FORMER_KEYS, KINDS};
 use crate::levels::{place_of, LEVELS};
+use crate::numbers::{self, Way};
 use crate::own_writes::{ways, WAYS};
 use crate::store::Store;
-use crate::{outcome, Call, Outcome, Refusal, Taken, Verdict};
+use crate::{form, outcome, Call, Outcome, Refusal, Taken, Verdict};
 use std::collections::{BTreeMap, BTreeSet};
 
 #[derive(Default)]
@@ -29,6 +30,9 @@ pub struct Met {
     clauses: BTreeMap<(&'static str, u8), usize>,
     /// Files that RYW refuses by the ways in which commits stand to clause 2.
     own_writes: BTreeMap<&'static str, usize>,
+    /// Files by the ways in which commits stand to rule 1: in all, and those
+    /// that were not refused there before request E7.
+    numbers: BTreeMap<Way, (usize, usize)>,
     /// The failures of SER, as code 16 names them.
     ser_failures: BTreeSet<Refusal>,
     /// The most operations of a commit in the files that are taken.
@@ -56,6 +60,7 @@ impl Met {
             if let Ok(taken) = &outcome {
                 met.taken(&case.bytes, taken);
             }
+            met.numbers(&case.bytes, &outcome);
             for call in Call::ALL {
                 let written = call.written(&outcome).map_or(0, <[u8]>::len);
                 let longest = met.longest_written.entry(call).or_default();
@@ -116,6 +121,25 @@ impl Met {
         self.longest_file = self.longest_file.max(file.len());
     }
 
+    /// Counts the numbers of the commits, as far as no other code is due.
+    fn numbers(&mut self, file: &[u8], outcome: &Outcome) {
+        let Ok(trace) = form::read(file) else {
+            return;
+        };
+        let records = match outcome {
+            Ok(_) => trace.records.len(),
+            Err(refusal) if refusal.code == 9 => refusal.record,
+            Err(refusal) => refusal.record - 1,
+        };
+        let ways = numbers::ways(&trace, records);
+        for way in Way::all() {
+            let files = self.numbers.entry(way).or_default();
+            let changed = ways.contains(&(way, true));
+            files.0 += usize::from(changed || ways.contains(&(way, false)));
+            files.1 += usize::from(changed);
+        }
+    }
+
     /// Takes the counts of another run in.
     pub fn add(&mut self, other: Met) {
         for (kind, count) in other.kinds {
@@ -143,6 +167,10 @@ impl Met {
         }
         for (way, count) in other.own_writes {
             *self.own_writes.entry(way).or_default() += count;
+        }
+        for (way, (files, changed)) in other.numbers {
+            let counts = self.numbers.entry(way).or_default();
+            *counts = (counts.0 + files, counts.1 + changed);
         }
         self.ser_failures.extend(other.ser_failures);
         self.most_operations = self.most_operations.max(other.most_operations);
@@ -182,6 +210,12 @@ impl Met {
         println!("files that RYW refuses, by a commit that");
         for (way, count) in &self.own_writes {
             println!("  {way}: {count}");
+        }
+        println!(
+            "files by what follows a client's commit without operations, of these refused since E7"
+        );
+        for (way, (files, changed)) in &self.numbers {
+            println!("  {}: {files}, {changed}", way.name());
         }
         println!("files by the levels that refuse them together");
         for (combination, count) in &self.combinations {
@@ -239,6 +273,12 @@ impl Met {
         for way in WAYS {
             let files = self.own_writes.get(way).copied().unwrap_or_default();
             assert!(files >= 10, "{files} files with a commit that {way}");
+        }
+        for way in Way::all() {
+            let (files, changed) = self.numbers[&way];
+            assert!(files >= 10, "{files} files with {}", way.name());
+            let due = if way.is_new() { 10..=files } else { 0..=0 };
+            assert!(due.contains(&changed), "{changed} changed: {}", way.name());
         }
         let met: BTreeSet<String> = self.combinations.keys().cloned().collect();
         assert_eq!(met, possible_combinations());

@@ -1,6 +1,7 @@
-//! Section "Store and views", the four rules of a commit and the rule of a
-//! shift, with codes 9 to 14 of section "Bench codes": a trace is run record
-//! after record from the opening store, or refused at its first fault.
+//! Section "Store and views", the four rules of a commit, the first by request
+//! E7, and the rule of a shift, with codes 9 to 14 of section "Bench codes": a
+//! trace is run record after record from the opening store, or refused at its
+//! first fault.
 
 use crate::store::{
     held_of, least_bad_key, least_split_version, newest, opening_view, Author, CommitNumber, Key,
@@ -31,8 +32,23 @@ pub struct Run {
     pub store: Store,
 }
 
+/// Does the number of a commit keep rule 1?
+pub type Numbers = fn(&Step) -> bool;
+
 /// Runs a well-formed trace.
 pub fn run(trace: &Trace) -> Result<Run, Refusal> {
+    run_by(trace, number_rises)
+}
+
+/// Rule 1: the number is "above every earlier number of that client in the
+/// trace, operations or none".
+pub fn number_rises(step: &Step) -> bool {
+    let mut earlier = step.store.sessions_of(step.author.client).into_iter();
+    earlier.all(|earlier| earlier < step.author.session)
+}
+
+/// The same with another rule 1.
+pub fn run_by(trace: &Trace, numbers: Numbers) -> Result<Run, Refusal> {
     let mut store = Store::opening(trace.keys);
     let mut views = vec![opening_view(trace.keys); trace.clients];
     let mut steps = Vec::new();
@@ -65,7 +81,7 @@ pub fn run(trace: &Trace) -> Result<Run, Refusal> {
                     store_after: store_after.clone(),
                     u_after: after.clone(),
                 };
-                check_commit(&step)?;
+                check_commit(&step, numbers)?;
                 views[*client] = after.clone();
                 store = store_after;
                 steps.push(step);
@@ -87,11 +103,9 @@ fn check_shift(record: usize, store: &Store, old: &View, new: &View) -> Result<(
 }
 
 /// Codes 9, 13, 10, 11, 14.
-fn check_commit(step: &Step) -> Result<(), Refusal> {
-    for earlier in step.store.sessions_of(step.author.client) {
-        if step.author.session <= earlier {
-            return Err(Refusal::at(9, step.record));
-        }
+fn check_commit(step: &Step, numbers: Numbers) -> Result<(), Refusal> {
+    if !numbers(step) {
+        return Err(Refusal::at(9, step.record));
     }
     for operation in &step.operations {
         if operation.kind == OperationKind::Read {

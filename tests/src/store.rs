@@ -122,15 +122,11 @@ impl Store {
         appearing
     }
 
-    /// The session numbers of a client that appear in the store.
+    /// The session numbers of a client in the trace so far, those of commits
+    /// without operations included.
     pub fn sessions_of(&self, client: usize) -> BTreeSet<u32> {
-        let mut sessions = BTreeSet::new();
-        for commit in self.appearing() {
-            if self.author(commit).client == client {
-                sessions.insert(self.author(commit).session);
-            }
-        }
-        sessions
+        let own = self.authors.iter().filter(|author| author.client == client);
+        own.map(|author| author.session).collect()
     }
 
     /// The store after one more commit, made from the view `u`: reads add the

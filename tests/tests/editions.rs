@@ -281,8 +281,10 @@ fn the_order_within_a_short_record() {
     assert_eq!(refused(&file(1, 1, &[&shift])), (6, 1, 0, 0));
     shift[4] = 0;
     assert_eq!(refused(&file(1, 1, &[&shift])), (7, 1, 0, 0));
-    let empty = commit_at(0, 0, &[], &[]);
-    let mut records: Vec<&[u8]> = vec![&empty; 63];
+    let empty: Vec<Vec<u8>> = (0..64)
+        .map(|number| commit_at(0, number, &[], &[]))
+        .collect();
+    let mut records: Vec<&[u8]> = empty[..63].iter().map(Vec::as_slice).collect();
     taken(&file(1, 1, &records));
     let wrong = commit_at(1, 0, &[(0, 1, 0)], &[1]);
     records.push(&wrong);
@@ -290,7 +292,7 @@ fn the_order_within_a_short_record() {
     let wrong = commit_at(0, 0, &[(0, 1, 0)], &[1]);
     records[63] = &wrong;
     assert_eq!(refused(&file(1, 1, &records)), (7, 64, 0, 0));
-    records[63] = &empty;
+    records[63] = &empty[63];
     assert_eq!(refused(&file(1, 1, &records)), (8, 64, 0, 0));
 }
 
@@ -310,6 +312,8 @@ fn the_meaning_of_short_records() {
     assert_eq!(refused(&file(2, 2, &[&both, &wrong])), (13, 2, 1, 1));
     let again = commit_at(0, 0, &[(0, 1, 1)], &[3]);
     assert_eq!(refused(&file(2, 2, &[&both, &again])), (9, 2, 0, 0));
+    let empty = commit_at(1, 7, &[], &[]);
+    assert_eq!(refused(&file(2, 2, &[&both, &empty, &empty])), (9, 3, 0, 0));
     let left = commit_at(0, 1, &[(0, 1, 1)], &[1]);
     assert_eq!(refused(&file(2, 2, &[&both, &left])), (11, 2, 1, 1));
 }

@@ -4,7 +4,8 @@
 use model::buffer::LONG;
 use model::by_hand::{commit, read, shift, write};
 use model::levels::missing;
-use model::store::Store;
+use model::relations::so;
+use model::store::{CommitNumber, Store};
 use model::trace::{encode, with_true_length, Operation, Record, Trace};
 use model::{judge, judge_with_room, replay, Answer, Refusal, Replay, Report};
 
@@ -159,7 +160,7 @@ fn more_operations_than_fit_are_out_of_order() {
 #[test]
 fn six_before_seven_before_eight_before_meaning() {
     let mut records = vec![commit(0, 0, &[read(0, 5)], &[&[0]])];
-    records.extend((1..64).map(|_| commit(0, 0, &[], &[&[0]])));
+    records.extend((1..64).map(|number| commit(0, number, &[], &[&[0]])));
     assert_eq!(refused(&file(1, 1, &records)), (8, 64, 0, 0));
     records[63] = commit(0, 0, &[write(0, 0), read(0, 0)], &[&[0]]);
     assert_eq!(refused(&file(1, 1, &records)), (7, 64, 0, 0));
@@ -169,15 +170,72 @@ fn six_before_seven_before_eight_before_meaning() {
     assert_eq!(refused(&file(1, 1, &records)), (13, 1, 0, 0));
 }
 
+/// Request E7: "not above every earlier number of that client in the trace,
+/// operations or none". So a commit without operations is bound, and binds.
 #[test]
 fn a_commit_without_operations_has_a_number_too() {
-    let five = commit(0, 5, &[read(0, 0)], &[&[0]]);
+    let operating = |session| commit(0, session, &[read(0, 0)], &[&[0]]);
     let empty = |session| commit(0, session, &[], &[&[0]]);
-    assert_eq!(
-        refused(&file(1, 1, &[five.clone(), empty(5)])),
-        (9, 2, 0, 0)
-    );
-    taken(&file(1, 1, &[empty(9), empty(9), empty(3), five, empty(6)]));
+    for (first, second) in [(0, 0), (7, 7), (7, 6), (u32::MAX, u32::MAX), (u32::MAX, 0)] {
+        for records in [
+            [operating(first), operating(second)],
+            [operating(first), empty(second)],
+            [empty(first), operating(second)],
+            [empty(first), empty(second)],
+        ] {
+            assert_eq!(refused(&file(1, 1, &records)), (9, 2, 0, 0));
+        }
+    }
+    let rising = [
+        empty(3),
+        operating(5),
+        empty(6),
+        empty(9),
+        operating(u32::MAX),
+    ];
+    taken(&file(1, 1, &rising));
+}
+
+/// Every earlier number, not the last one of each sort: here the commit with
+/// operations behind the one without has the greater number, and here before.
+#[test]
+fn a_number_is_above_those_of_both_sorts() {
+    let operating = |session| commit(0, session, &[read(0, 0)], &[&[0]]);
+    let empty = |session| commit(0, session, &[], &[&[0]]);
+    for records in [[empty(3), operating(7)], [operating(3), empty(7)]] {
+        for (session, is_taken) in [(2, false), (3, false), (5, false), (7, false), (8, true)] {
+            for last in [operating(session), empty(session)] {
+                let records = [records[0].clone(), records[1].clone(), last];
+                match is_taken {
+                    true => drop(taken(&file(1, 1, &records))),
+                    false => assert_eq!(refused(&file(1, 1, &records)), (9, 3, 0, 0)),
+                }
+            }
+        }
+    }
+}
+
+/// "of that client": the numbers of another bind nobody else.
+#[test]
+fn each_client_has_numbers_of_its_own() {
+    let empty = |client, session| commit(client, session, &[], &[&[0]]);
+    let records = [empty(0, 7), empty(1, 7), empty(1, 8), empty(0, 8)];
+    taken(&file(1, 2, &records));
+    let records = [empty(0, 7), empty(1, 3), empty(0, 3)];
+    assert_eq!(refused(&file(1, 2, &records)), (9, 3, 0, 0));
+}
+
+/// SO is as it was: a commit without operations is in no pair of it.
+#[test]
+fn a_commit_without_operations_is_in_no_session_order() {
+    let records = [
+        commit(0, 0, &[write(0, 1)], &[&[0, 1]]),
+        commit(0, 1, &[], &[&[0, 1]]),
+        commit(0, 2, &[read(0, 1)], &[&[0, 1]]),
+    ];
+    let (_, run) = model::facts::taken(&file(1, 1, &records)).expect("it is taken");
+    let (first, last) = (CommitNumber(1), CommitNumber(3));
+    assert_eq!(so(&run.store), [(first, last)].into_iter().collect());
 }
 
 #[test]
@@ -367,8 +425,8 @@ fn sixteen_after_the_trace_and_before_the_buffer() {
     };
     assert_eq!(no_replay(&records[..1]), Refusal::at(17, 0));
     assert_eq!(no_replay(&records), ser);
-    records.push(commit(1, 0, &[write(0, 1)], &[&[0]]));
+    records.push(commit(1, 1, &[write(0, 1)], &[&[0]]));
     assert_eq!(no_replay(&records), ser);
-    records.push(commit(1, 0, &[read(0, 0)], &[&[0]]));
+    records.push(commit(1, 1, &[read(0, 0)], &[&[0]]));
     assert_eq!(no_replay(&records), Refusal::at(9, 4));
 }

@@ -1,16 +1,18 @@
-//! Do the generated traces tell a wrong reading of the clauses, of the replay
-//! or of the limits from the right one? Each slip here is one of them read
+//! Do the generated traces tell a wrong reading of the clauses, of the replay,
+//! of rule 1 or of the limits from the right one? Each slip here is one of them read
 //! wrongly; some taken trace must get other verdicts by it, or another answer;
 //! some file must be read otherwise.
 
 use model::buffer::{pattern, LONG_FILE};
-use model::facts::taken;
+use model::facts::{entries_differ, numbers_rise, taken};
 use model::form::{read, read_within};
 use model::generate::{file, taken_case, FORMER_KEYS};
+use model::image::image;
 use model::levels::{
     least_missing, missing, missing_before, place_of, session_of, verdicts, verdicts_by, Clauses,
 };
 use model::met::all_noticed;
+use model::numbers::former_rule;
 use model::own_writes::{former_clauses, lacked};
 use model::random::Random;
 use model::relations::{
@@ -18,8 +20,8 @@ use model::relations::{
     snapshot_steps, so, then_maybe, union, wr, ww, Relation,
 };
 use model::replay::{replay_file, replay_of, write};
-use model::run::{Run, Step};
-use model::store::{opening_view, writers_in, CommitNumber, Key, Store, Version, View};
+use model::run::{number_rises, run_by, Numbers, Run, Step};
+use model::store::{opening_view, writers_in, Author, CommitNumber, Key, Store, Version, View};
 use model::trace::{encode, OperationKind, Record, Trace};
 use model::{Refusal, Verdict};
 use std::collections::BTreeSet;
@@ -428,6 +430,121 @@ fn record_0(given: &Given, length: usize) -> Result<Vec<u8>, Refusal> {
 
 fn record_only(given: &Given, length: usize) -> Result<Vec<u8>, Refusal> {
     right(given, length).map_err(|refusal| Refusal::at(refusal.code, refusal.record))
+}
+
+/// What a trace comes to by a rule 1: the final store, or a refusal.
+fn stored(trace: &Trace, numbers: Numbers) -> Result<Store, Refusal> {
+    run_by(trace, numbers).map(|run| run.store)
+}
+
+/// The traces of the first files that are in form and not long.
+fn traces_in_form() -> Vec<Trace> {
+    let traces = (0..TRACES).filter_map(|seed| read(&file(seed)).ok());
+    traces.filter(|trace| trace.records.len() <= 32).collect()
+}
+
+#[test]
+fn slips_of_the_numbers_are_noticed() {
+    let slips: [(&str, Numbers); 6] = [
+        ("commits with operations bind alone", former_rule),
+        ("commits with operations are bound alone", empty_unbound),
+        ("commits bind their own sort alone", own_sort_only),
+        ("an equal number rises", equal_rises),
+        ("the numbers of all clients", of_all_clients),
+        ("the first number of the client", first_only),
+    ];
+    let traces = traces_in_form();
+    println!("{} traces", traces.len());
+    let right: Vec<_> = traces
+        .iter()
+        .map(|trace| stored(trace, number_rises))
+        .collect();
+    let noticed = slips.map(|(name, slip)| {
+        let other = traces
+            .iter()
+            .zip(&right)
+            .filter(|(trace, right)| stored(trace, slip) != **right);
+        (name, other.count())
+    });
+    all_noticed(&noticed);
+}
+
+/// Rule 1 with some of the earlier commits.
+fn above(step: &Step, binds: impl Fn(CommitNumber, Author) -> bool) -> bool {
+    let earlier = step.store.commits().into_iter();
+    earlier
+        .map(|commit| (commit, step.store.author(commit)))
+        .filter(|(commit, earlier)| binds(*commit, *earlier))
+        .all(|(_, earlier)| earlier.session < step.author.session)
+}
+
+fn empty_unbound(step: &Step) -> bool {
+    step.operations.is_empty() || number_rises(step)
+}
+
+fn own_sort_only(step: &Step) -> bool {
+    let appearing = step.store.appearing();
+    above(step, |commit, earlier| {
+        let same_sort = appearing.contains(&commit) != step.operations.is_empty();
+        earlier.client == step.author.client && same_sort
+    })
+}
+
+fn equal_rises(step: &Step) -> bool {
+    above(step, |_, earlier| {
+        earlier.client == step.author.client && earlier.session != step.author.session
+    })
+}
+
+fn of_all_clients(step: &Step) -> bool {
+    above(step, |_, _| true)
+}
+
+fn first_only(step: &Step) -> bool {
+    let sessions = step.store.sessions_of(step.author.client);
+    sessions
+        .first()
+        .is_none_or(|&first| first < step.author.session)
+}
+
+/// The number of the client's last commit alone.
+fn last_only(step: &Step) -> bool {
+    let mut earlier = step.store.authors.iter().rev();
+    let last = earlier.find(|earlier| earlier.client == step.author.client);
+    last.is_none_or(|last| last.session < step.author.session)
+}
+
+/// The numbers of a client rise as far as a trace is not refused, so its last
+/// one is the greatest: no answer tells that the others are not looked at.
+#[test]
+fn a_slip_that_no_answer_tells() {
+    let mut refused = 0;
+    for trace in traces_in_form() {
+        let right = stored(&trace, number_rises);
+        assert_eq!(stored(&trace, last_only), right);
+        refused += usize::from(matches!(right, Err(Refusal { code: 9, .. })));
+    }
+    println!("the last number alone: the same code 9 in {refused}");
+    assert!(refused > 0);
+}
+
+/// By the rule before request E7 a trace is taken whose log has two entries
+/// alike, and another with a number below an earlier one; by this one none is.
+#[test]
+fn numbers_that_do_not_rise_are_noticed() {
+    let (mut falling, mut alike) = (0, 0);
+    for trace in traces_in_form() {
+        if let Ok(store) = stored(&trace, former_rule) {
+            let falls = numbers_rise(&store).is_err();
+            let has_alike = entries_differ(&image(&store)).is_err();
+            assert_eq!(falls, stored(&trace, number_rises).is_err());
+            assert!(falls || !has_alike);
+            falling += usize::from(falls);
+            alike += usize::from(has_alike);
+        }
+    }
+    println!("taken before: {falling} with numbers that do not rise, {alike} with two alike");
+    assert!(falling > alike && alike > 0);
 }
 
 /// A file as a trace, or a refusal of its form.

@@ -1,11 +1,12 @@
 //! Traces around one session, for clause 2: a client writes, and later one of
 //! its commits leaves it without some of what it wrote.
 
-use super::taken::{number_of_keys, some_keys, Builder, Built, Numbering, Style, Writers};
+use super::taken::{
+    number_of_keys, some_keys, Accesses, Builder, Built, Numbering, Style, Writers,
+};
 use crate::random::Random;
 use crate::store::{CommitNumber, Key};
 use crate::trace::OperationKind;
-use std::collections::BTreeSet;
 
 /// The client of the session.
 const CLIENT: usize = 0;
@@ -43,7 +44,7 @@ pub fn build_session(random: &mut Random) -> Built {
     for _ in 0..after {
         if random.percent(40) {
             let seen = builder.seen(CLIENT);
-            builder.plain_commit(random, CLIENT, &BTreeSet::new(), &[], seen);
+            builder.plain_commit(random, CLIENT, &Accesses::new(), &[], seen);
         } else {
             let client = random.below(clients);
             builder.styled_commit(random, &style, client);
@@ -53,8 +54,8 @@ pub fn build_session(random: &mut Random) -> Built {
 }
 
 /// Reads and writes of some of the keys, at least one.
-fn some_accesses(random: &mut Random, used: &[Key]) -> BTreeSet<(Key, OperationKind)> {
-    let mut accesses = BTreeSet::new();
+pub(super) fn some_accesses(random: &mut Random, used: &[Key]) -> Accesses {
+    let mut accesses = Accesses::new();
     for _ in 0..random.between(1, used.len() + 1) {
         let kind = if random.percent(60) {
             OperationKind::Write
@@ -78,7 +79,7 @@ fn forgetful_commit(random: &mut Random, builder: &mut Builder, used: &[Key]) {
         .copied()
         .collect();
     let mut accesses = match random.below(3) {
-        0 if !lost.is_empty() => BTreeSet::new(),
+        0 if !lost.is_empty() => Accesses::new(),
         _ => some_accesses(random, used),
     };
     for &writer in &lost {

@@ -20,6 +20,9 @@ use std::rc::Rc;
 
 pub(super) type Writers = BTreeSet<CommitNumber>;
 
+/// The reads and writes of a commit.
+pub(super) type Accesses = BTreeSet<(Key, OperationKind)>;
+
 /// What a client sees more of before it commits.
 #[derive(Clone, Copy, PartialEq, Eq, Debug)]
 pub enum Seeing {
@@ -319,7 +322,7 @@ struct Path {
     /// a write of the last; now and then a key is used twice.
     used: Vec<Key>,
     clients: Vec<usize>,
-    accesses: Vec<BTreeSet<(Key, OperationKind)>>,
+    accesses: Vec<Accesses>,
 }
 
 impl Path {
@@ -603,6 +606,11 @@ impl Builder {
         }
     }
 
+    /// How many records there are.
+    pub(super) fn records(&self) -> usize {
+        self.trace.records.len()
+    }
+
     pub(super) fn next_commit(&self) -> CommitNumber {
         CommitNumber(self.state.store.authors.len() + 1)
     }
@@ -690,7 +698,21 @@ impl Builder {
         &mut self,
         random: &mut Random,
         client: usize,
-        accesses: &BTreeSet<(Key, OperationKind)>,
+        accesses: &Accesses,
+        rules: &[Rule],
+        writers: Writers,
+    ) {
+        let session = self.state.store.sessions_of(client).len() as u32;
+        self.numbered_commit(random, client, session, accesses, rules, writers);
+    }
+
+    /// The same with any number.
+    pub(super) fn numbered_commit(
+        &mut self,
+        random: &mut Random,
+        client: usize,
+        session: u32,
+        accesses: &Accesses,
         rules: &[Rule],
         mut writers: Writers,
     ) {
@@ -708,7 +730,6 @@ impl Builder {
         {
             writers.insert(self.next_commit());
         }
-        let session = self.state.store.sessions_of(client).len() as u32;
         self.commit(client, session, operations, &writers);
     }
 
@@ -761,17 +782,22 @@ impl Builder {
         self.commit(client, session, operations, &after);
     }
 
-    /// A number above all of the client's that appear in the store.
+    /// The least number that is above all of the client's, if there is one.
+    pub(super) fn least_session(&self, client: usize) -> Option<u32> {
+        match self.state.store.sessions_of(client).last() {
+            Some(largest) => largest.checked_add(1),
+            None => Some(0),
+        }
+    }
+
+    /// A number above all of the client's.
     fn next_session(
         &self,
         random: &mut Random,
         numbering: Numbering,
         client: usize,
     ) -> Option<u32> {
-        let least = match self.state.store.sessions_of(client).last() {
-            Some(largest) => largest.checked_add(1)?,
-            None => 0,
-        };
+        let least = self.least_session(client)?;
         let gap = match numbering {
             Numbering::ByOne => 0,
             Numbering::WithGaps => random.below(4) as u32,
