@@ -1,13 +1,12 @@
--- The full view of a store is a view of it, and every view that holds all versions of a key sees the same newest one. Assumes nothing.
+-- The full view of a store is a view of it. Assumes nothing.
 use mathlib.Core.Path.{_≡_, ap}
-use Prim.Native.Nat.{ℕ, _^_, _≤_, _<_}
+use Prim.Native.Nat.{ℕ, _≤_, _<_}
 use native.Mathlib.Omega.{arith}
 use native.Mathlib.Decide.{decLt}
 use lib.Dec.{T}
 use Rattle.sets.specs.Set.{has, below, width}
-use Rattle.sets.proofs.Laws.{has-large, has-below, below-has, below-word, has-highest, highest-most}
+use Rattle.sets.proofs.Laws.{has-below, below-has, below-word}
 use Rattle.store.specs.Store.{Key, View, Store, count, nextNumber}
-use Rattle.store.specs.Update.{newest}
 use Rattle.store.specs.View.{IsView}
 use Rattle.store.specs.Sound.{SoundStore}
 use Rattle.answer.specs.Replay.{fullView}
@@ -32,15 +31,3 @@ full-view s h room = record {
     none-beyond : (k : Key) → s .keys ≤ k → Dec (0 < count s k) → count s k ≡ 0
     none-beyond k l (yes p) = let q : k < s .keys = h .only-keys k 0 p in absurd (omega arith)
     none-beyond k l (no n) = omega arith
-
-module _ (s : Store) (k : Key) (l : k < s .keys) where
-  -- a view that holds every version of a key sees none older than another view does
-  newest-le : (u v : View) → IsView s u → IsView s v → HoldsAll s v k → newest u k ≤ newest v k
-  newest-le u v a b all =
-      let some-u : 2 ^ 0 ≤ u k = has-large (u k) 0 (a .opened k l) in
-      let some-v : 2 ^ 0 ≤ v k = has-large (v k) 0 (b .opened k l) in
-      highest-most (v k) (omega arith) (b .word k) (newest u k) (all (newest u k) (a .exist k (newest u k) (has-highest (u k) (omega arith) (a .word k))))
-
-  -- views that hold every version of a key have the same newest one
-  pub same-newest : (u v : View) → IsView s u → IsView s v → HoldsAll s u k → HoldsAll s v k → newest u k ≡ newest v k
-  same-newest u v a b all-u all-v = omega (arith, newest-le u v a b all-v, newest-le v u b a all-u)

@@ -9,6 +9,7 @@ pub mod FullView
 pub mod Replayed
 pub mod ReplayFile
 pub mod Demand3
+pub mod Recorded
 pub mod EarlierRule
 pub mod Written
 pub mod Converted

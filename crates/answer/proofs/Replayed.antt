@@ -1,19 +1,17 @@
 -- The replay of a run that serialisability accepts (01, The words of demand 3): from an equal store, each commit is made from a
 -- full view and left with one; it is legal, leaves an equal store, and passes every level. Assumes nothing.
 use mathlib.Core.Path.{_≡_, refl, sym, ap, _∙_, subst, fun-ext}
-use mathlib.Core.Option.{Option, some, none}
 use mathlib.Core.List.{List, [], _∷_}
 use Prim.Native.Nat.{ℕ, suc, _+_, _≤_, _<_}
 use native.Mathlib.Omega.{arith}
 use lib.Dec.{T}
 use lib.ListN.{length}
-use Rattle.search.specs.Choose.{isSome}
-use Rattle.search.proofs.Tests.{isSome-some}
 use Rattle.sets.specs.Set.{below}
+use Rattle.sets.proofs.Algebra.{full-is}
 use Rattle.dependencies.specs.History.{ReadYourWrites}
 use Rattle.store.specs.Limits.{numbers}
-use Rattle.store.specs.Store.{Key, VersionNumber, CommitNumber, Value, Version, View, Store, Configuration, count, version, nextNumber, read, write, Commit, Event, shift, commit}
-use Rattle.store.specs.Update.{valueOf, reads, newest, noteRead, append, atNumber, update, viewBefore, storeAfter, step, final}
+use Rattle.store.specs.Store.{Key, CommitNumber, Version, View, Store, Configuration, count, version, nextNumber, Commit, Event, shift, commit}
+use Rattle.store.specs.Update.{newest, update, viewBefore, storeAfter, step, final}
 use Rattle.store.specs.History.{Wrote, InLog, history, held}
 use Rattle.store.proofs.Updated.{at-same, count-update, untouched}
 use Rattle.store.specs.View.{IsView, FitsView}
@@ -24,28 +22,7 @@ use Rattle.store.proofs.Run.{FitsAll, LegalRun, done, shifts, commits, sound-sh
 use Rattle.levels.specs.Level.{Level, SER, clausesOf}
 use Rattle.levels.proofs.Levels.{Passes, every-clause, all-say}
 use Rattle.answer.specs.Replay.{fullView, fullShift, fullCommit, replayStep, replayEvents}
-use Rattle.answer.proofs.FullView.{HoldsAll, full-holds-all, full-view, same-newest}
-
--- ---- what the store after a commit owes to the view
-
--- a read is noted at the same version
-note-same : (o : Option Value) (p q t : ℕ) (vs : List Version) → (T (isSome o) → p ≡ q) → noteRead o p t vs ≡ noteRead o q t vs
-unfolding noteRead isSome
-note-same none p q t vs e = refl
-note-same (some x) p q t vs e = ap (λ (i : ℕ). noteRead (some x) i t vs) (e tt)
-
--- a commit leaves the same store from two views that see the same newest versions of the keys that it reads
-update-same : (s : Store) (u v : View) (c : Commit) → ((k : Key) → T (reads c k) → newest u k ≡ newest v k) → update s u c ≡ update s v c
-unfolding update
-update-same s u v c e = λ i. record {
-  keys = s .keys;
-  versions = fun-ext (λ k.
-      ap (append (valueOf write (c .operations) k) (nextNumber s))
-      (note-same (valueOf read (c .operations) k) (newest u k) (newest v k) (nextNumber s) (s .versions k) (e k))) i;
-  clientOf = atNumber (nextNumber s) (c .client) (s .clientOf);
-  sessionOf = atNumber (nextNumber s) (c .session) (s .sessionOf);
-  commits = suc (s .commits);
-}
+use Rattle.answer.proofs.FullView.{HoldsAll, full-holds-all, full-view}
 
 -- ---- one commit
 
@@ -99,20 +76,17 @@ module _ (g r : Configuration) (c : Commit) (same : g .store ≡ r .store) (soun
   unfolding step
   shifted-view = at-same (c .client) (fullView s) (r .views)
 
-  -- the two views see the same newest version of a key that is read
-  newest-full : (k : Key) → T (reads c k) → newest before k ≡ newest (fullView s) k
-  newest-full k t =
-      same-newest s k (fits .read-keys k t) before (fullView s)
-      (subst (λ (x : Store). IsView x before) same (sound-g .views (c .client))) full
-      (subst (λ (x : Store). HoldsAll x before k) same (λ i l. ser .0 _ k i (l, refl))) (full-holds-all s k)
+  -- the commit was itself made on a full view, so that its replay stores the same view
+  before-full : before ≡ fullView s
+  before-full =
+      let view : IsView s before = subst (λ (x : Store). IsView x before) same (sound-g .views (c .client)) in
+      let all : (k : Key) → HoldsAll s before k = subst (λ (x : Store). (k : Key) → HoldsAll x before k) same (λ k i l. ser .0 _ k i (l, refl)) in
+      fun-ext (λ k. full-is (count s k) (before k) (view .exist k) .1 (all k))
 
   -- so the stores after are equal again
   store-after : storeAfter g c ≡ replayed r c .store
   unfolding step update
-  store-after =
-      ap (λ (x : Store). update x before c) same
-      ∙ update-same s before (fullView s) c newest-full
-      ∙ ap (λ (v : View). update s v c) (sym shifted-view)
+  store-after = ap (λ (x : Store). update x before c) same ∙ ap (λ (v : View). update s v c) (before-full ∙ sym shifted-view)
 
   sound-after : SoundStore (storeAfter shifted (fullCommit r c))
   unfolding step
@@ -134,8 +108,7 @@ module _ (g r : Configuration) (c : Commit) (same : g .store ≡ r .store) (soun
     values = λ k x e.
         legal .values k x e
         ∙ ap (λ (y : Store). version y k (newest before k) .value) same
-        ∙ ap (λ (i : VersionNumber). version s k i .value) (newest-full k (isSome-some _ x e))
-        ∙ ap (λ (v : View). version s k (newest v k) .value) (sym shifted-view);
+        ∙ ap (λ (v : View). version s k (newest v k) .value) (before-full ∙ sym shifted-view);
     view = full-after;
     still = λ k nr nw.
         ap (λ (vs : List Version). below (length vs)) (untouched s (viewBefore shifted (fullCommit r c)) (fullCommit r c) k nr nw)

@@ -68,6 +68,6 @@ imageAfter bytes buffer = bufferAfter (judged bytes) buffer
 abbrev pub AtMost : ℕ → (Trace → List ℕ) → List ℕ → Type 0
 AtMost most made bytes = (t : Trace) → accept bytes ≡ taken t → length (made t) ≤ most
 
--- "The image can reach 33,408 bytes" (02, E2)
+-- "The limit is then 49,536 bytes for 32 keys" (02, E8)
 abbrev pub ImageFits : List ℕ → Type 0
 ImageFits bytes = AtMost maxImage (λ t. image (finalStore t)) bytes

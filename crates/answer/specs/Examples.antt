@@ -66,7 +66,7 @@ traceB = record {
   answered =
       judges
       (accepted ∷ accepted ∷ accepted ∷ accepted ∷ accepted ∷ fails 2 2 updateAtomic ∷ fails 2 2 updateAtomic ∷ accepted
-      ∷ fails 2 2 updateAtomic ∷ fails 2 2 serialisability ∷ []) 2 2 76;
+      ∷ fails 2 2 updateAtomic ∷ fails 2 2 serialisability ∷ []) 2 2 92;
 }
 
 -- "C* Long fork: client 0 writes key 0; client 1 writes key 1; client 2 shifts to {0,1},{0} and reads 1 and 0; client 3 shifts to
@@ -89,7 +89,7 @@ traceC = record {
   answered =
       judges
       (accepted ∷ accepted ∷ accepted ∷ accepted ∷ accepted ∷ accepted ∷ accepted ∷ fails 4 6 consistentPrefix
-      ∷ fails 4 6 snapshotIsolation ∷ fails 2 2 serialisability ∷ []) 6 4 112;
+      ∷ fails 4 6 snapshotIsolation ∷ fails 2 2 serialisability ∷ []) 6 4 176;
 }
 
 -- "D* Write skew, one commit each: client 0 reads both keys as 0 and writes key 0, client 1 reads both as 0 and writes key 1; views
@@ -107,7 +107,7 @@ traceD = record {
   answered =
       judges
       (accepted ∷ accepted ∷ accepted ∷ accepted ∷ accepted ∷ accepted ∷ accepted ∷ accepted ∷ accepted ∷ fails 2 2 serialisability ∷ [])
-      2 2 96;
+      2 2 128;
 }
 
 -- "E* Client 0 writes key 0; client 1 shifts to {0,1}, reads 1, ends with {0}. MR, CC, PSI, CP, SI fail at record 3, clause 1; SER
@@ -122,7 +122,7 @@ traceE = record {
   answered =
       judges
       (fails 2 3 monotonicReads ∷ accepted ∷ accepted ∷ accepted ∷ fails 2 3 monotonicReads ∷ accepted ∷ fails 2 3 monotonicReads
-      ∷ fails 2 3 monotonicReads ∷ fails 2 3 monotonicReads ∷ accepted ∷ []) 3 2 60;
+      ∷ fails 2 3 monotonicReads ∷ fails 2 3 monotonicReads ∷ accepted ∷ []) 3 2 76;
 }
 
 -- "F* Client 0 writes key 0, then key 1; client 2 shifts to {0},{0,1} and reads key 1. MW fails at record 4, key 0, version 1; WFR
@@ -142,7 +142,7 @@ traceF = record {
   answered =
       judges
       (accepted ∷ fails 3 4 monotonicWrites ∷ accepted ∷ accepted ∷ fails 3 4 monotonicWrites ∷ accepted ∷ fails 3 4 monotonicWrites
-      ∷ fails 3 4 consistentPrefix ∷ fails 3 4 snapshotIsolation ∷ fails 3 4 serialisability ∷ []) 4 3 104;
+      ∷ fails 3 4 consistentPrefix ∷ fails 3 4 snapshotIsolation ∷ fails 3 4 serialisability ∷ []) 4 3 152;
 }
 
 -- "G* Client 0 writes key 0; client 1 shifts to {0,1},{0}, then in one commit reads key 0 and writes key 1; client 2 shifts to
@@ -163,7 +163,7 @@ traceG = record {
   answered =
       judges
       (accepted ∷ accepted ∷ accepted ∷ fails 3 5 writesFollowReads ∷ fails 3 5 writesFollowReads ∷ accepted ∷ fails 3 5 writesFollowReads
-      ∷ fails 3 5 consistentPrefix ∷ fails 3 5 snapshotIsolation ∷ fails 3 5 serialisability ∷ []) 5 3 104;
+      ∷ fails 3 5 consistentPrefix ∷ fails 3 5 snapshotIsolation ∷ fails 3 5 serialisability ∷ []) 5 3 152;
 }
 
 -- "H* One commit writes two keys; another client shifts to {0,1},{0}: code 11, record 2, key 1, version 1."
@@ -189,7 +189,7 @@ traceL = record {
   answered =
       judges
       (fails 2 2 monotonicReads ∷ accepted ∷ fails 2 2 readYourWrites ∷ accepted ∷ fails 2 2 monotonicReads ∷ accepted ∷ fails 2 2 monotonicReads
-      ∷ fails 2 2 monotonicReads ∷ fails 2 2 monotonicReads ∷ accepted ∷ []) 2 2 60;
+      ∷ fails 2 2 monotonicReads ∷ fails 2 2 monotonicReads ∷ accepted ∷ []) 2 2 76;
 }
 
 abbrev pub table : List Row

@@ -2,6 +2,7 @@ pub mod Output
 pub mod Answer
 pub mod Replay
 pub mod Demand3
+pub mod Recorded
 pub mod Written
 pub mod Converted
 pub mod Examples

@@ -1,6 +1,6 @@
 -- The codes of a commit, case by case. Assumes nothing.
 use Prim.Native.Nat.{ℕ, _+_, _*_, _≤_, _<_}
-use mathlib.Core.Path.{_≡_, refl, sym, ap, _∙_, subst}
+use mathlib.Core.Path.{_≡_, refl, sym, ap, _∙_, subst, subst₂}
 use mathlib.Core.Bool.{Bool, _&&_}
 use mathlib.Core.Logic.{_↔_}
 use mathlib.Core.Option.{Option, some, none}
@@ -28,10 +28,10 @@ use Rattle.growth.specs.Made.{Made, Writes}
 use Rattle.growth.proofs.Made.{keys-after, sound-after, number-after}
 use Rattle.growth.proofs.Ordered.{ordered-commit}
 use Rattle.growth.proofs.Views.{holds-kept}
-use Rattle.state.specs.Places.{barPlace}
+use Rattle.state.specs.Places.{viewPlace, storedRow, barPlace}
 use Rattle.state.specs.Keeps.{IsSet, KeepsSessions, KeepsViews}
 use Rattle.state.proofs.Sets.{isSet-as}
-use Rattle.views.specs.Rows.{Kept}
+use Rattle.views.specs.Rows.{Moved}
 use Rattle.views.specs.Viewed.{NewMasks}
 use Rattle.shifts.specs.Outcomes.{maskRefusal}
 use Rattle.shifts.proofs.Refused.{good-masks, third-or}
@@ -137,14 +137,14 @@ module _ {g : Configuration} {c : Commit} {values versions keys fresh views seen
       row : (k : ℕ) → k < n → getD views (maxKeys * client + k) 0 ≡ viewBefore g c k
       row k p = l .in-views .rows client b k (omega (arith, l .keys-are)) ∙ ap (λ (d : ℕ). g .views d k) (sym (l .client-is))
 
-  -- the views after it, where the masks are kept as the client's
-  pub late-kept : n ≤ maxKeys → {views′ : List ℕ} (m : ℕ) → Kept fresh (maxKeys * client) n views views′
+  -- the views after it, where the view before is stored and the masks are kept as the client's
+  pub late-kept : n ≤ maxKeys → {views′ : List ℕ} (m : ℕ) → Moved fresh (maxKeys * client) (viewPlace (storedRow me) 0) n views views′
       → IsSet m (D.Holds (history (storeAfter g c)) (held (c .viewAfter))) → KeepsViews (step g (commit c)) views′ (set seen client m)
   late-kept few {views′} m k s =
       let own : c .client < maxClients = let e = l .client-is in omega arith in
       subst (λ (d : ℕ). KeepsViews (step g (commit c)) views′ (set seen d m)) (l .client-is)
       (commit-replaces g c n (l .sound) (l .made) few (l .keys-are) own views views′ seen fresh m (l .in-views) (l .in-fresh)
-      (subst (λ (d : ℕ). Kept fresh (maxKeys * d) n views views′) (sym (l .client-is)) k) s)
+      (subst₂ (λ (d t : ℕ). Moved fresh (maxKeys * d) (viewPlace (storedRow t) 0) n views views′) (sym (l .client-is)) (sym (l .number-is)) k) s)
 
   -- what the levels are given, where no code is due
   pub after-commit : (i : ℕ) {wanted : Wanted} {plain : Bool} {commits : List ℕ} → JudgeGiven g c wanted plain commits → {own m : Set} → IsSet own (λ t. (t ≡ me) × Writes c)

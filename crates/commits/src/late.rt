@@ -73,7 +73,8 @@ fn sight_after(
     }
 }
 
-// A commit that is made, of the record of this number: codes 10, 11 and 14; where none is due, the levels judge it, and the masks become the client's view.
+// A commit that is made, of the record of this number: codes 10, 11 and 14; where none is due, the levels judge it, the client's view is stored as the one
+// that the commit was judged from, and the masks become the client's view.
 // The other arrays keep the store after the commit, and `wanted` is what clauses 3 to 8 want of the view before.
 pub fn late(
     number: usize,
@@ -137,7 +138,7 @@ pub fn late(
                 n,
                 me,
             );
-            views::masks::keep(views, base, fresh, n);
+            views::masks::store_and_keep(views, base, fresh, n, me);
             seen[client] = after;
             Outcome::Taken
         }

@@ -12,6 +12,7 @@ ghost use lib.ListN.{length};
 ghost use Rattle.endian.specs.Endian.{putAt};
 ghost use Rattle.answer.specs.Answer.{imageAfter, ImageFits};
 ghost use Rattle.answer.specs.Demand3.{Demand3};
+ghost use Rattle.answer.specs.Recorded.{ImageSays};
 ghost use Rattle.answer.specs.Written.{replayAnswer, replayAfter, ReplayFits, ReadsBack};
 ghost use Rattle.answer.specs.Converted.{convertAnswer, convertAfter, WrittenSame};
 ghost use Rattle.trace.specs.Edition as Editions;
@@ -25,7 +26,8 @@ ghost use Rattle.report.specs.Longest.{longestReport};
 ghost use Rattle.words.specs.Layout.{noRoom, refusalLength, replayWords, answerLength, answerWords, codeOf};
 
 // Judges a trace file: ten verdicts, and the image of its store at the start of `image`; or a refusal with codes 1 to 15, and `image` as it came.
-// Where there is no room for the words nothing is judged. No file has an image longer than `maxImage` bytes: with such a buffer there is no code 15.
+// Where there is no room for the words nothing is judged. No file has an image longer than `maxImage` bytes: with such a buffer there is no code 15. Read back, the
+// image says the whole store, and each view in it is one of the store as it was before its commit.
 #[no_mangle]
 pub extern "C" fn judge_file(file: &[u8], image: &mut [u8], out: &mut [u64]) -> u64
     ensures room { λ r. ⌜
@@ -40,6 +42,7 @@ pub extern "C" fn judge_file(file: &[u8], image: &mut [u8], out: &mut [u64]) -> 
         ⌝ }
     ensures longest { λ _. ⌜ ImageFits (now (file .entry)) ⌝ }
     ensures demand3 { λ _. ⌜ Demand3 (now (file .entry)) ⌝ }
+    ensures says { λ _. ⌜ ImageSays (now (file .entry)) ⌝ }
 {
     if out.len() < words::ANSWER {
         return words::NO_ROOM;
@@ -148,6 +151,7 @@ pub extern "C" fn report_file(file: &[u8], image: &mut [u8], text: &mut [u8]) ->
         ⌝ }
     ensures longest { λ r. ⌜ r ≤ longestReport ⌝ }
     ensures demand3 { λ _. ⌜ Demand3 (now (file .entry)) ⌝ }
+    ensures says { λ _. ⌜ ImageSays (now (file .entry)) ⌝ }
 {
     if text.len() < report::LONGEST {
         return 0;

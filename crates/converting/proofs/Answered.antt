@@ -27,7 +27,7 @@ use Rattle.taking.proofs.ToCome.{only-trace}
 use Rattle.converting.specs.Answers.{Ending}
 
 -- what the ending is given
-pub ends-with : {bytes : List ℕ} {t : Trace} {versions keys commits : List ℕ} {h : Header} {count : ℕ} {vs : Verdicts} → Takes bytes t versions keys commits h count vs → Ending bytes h
+pub ends-with : {bytes : List ℕ} {t : Trace} {versions keys commits views : List ℕ} {h : Header} {count : ℕ} {vs : Verdicts} → Takes bytes t versions keys commits views h count vs → Ending bytes h
 ends-with {t = t} k = record { trace = t; in-form = k .in-form; accepted = k .accepted; all-records = k .all-records }
 
 module _ (e : Edition) (bytes buffer : List ℕ) where

@@ -23,13 +23,13 @@ use Rattle.trace.specs.declared.records.Record.{Record}
 use Rattle.trace.specs.declared.records.Record.the-variants.{Shift, Commit}
 use Rattle.trace.specs.declared.records.Reading.the-variants.{Whole}
 use Rattle.trace.proofs.Sizes.{length-fileOf}
-use Rattle.state.specs.Places.{viewsLength}
+use Rattle.state.specs.Places.{clientRows}
 use Rattle.state.specs.Keeps.{RowIs}
 use Rattle.state.specs.Rows.{RowAt}
-use Rattle.state.proofs.Opening.{keeps-opening}
+use Rattle.state.proofs.Opening.{opening-rows}
 use Rattle.views.specs.Rows.{Kept}
 use Rattle.shifts.proofs.Refused.{masks-filled}
-use Rattle.shifts.proofs.Replaced.{rows-replaced}
+use Rattle.shifts.proofs.Replaced.{kept-rows, rows-replaced}
 use Rattle.run.specs.OneRecord.{Readable}
 use Rattle.taking.proofs.InForm.{traceIn}
 use Rattle.taking.proofs.ToCome.{only-trace, ToCome, Turn, all-to-come, none-to-come, in-form, turn}
@@ -75,8 +75,11 @@ module _ (file : List ℕ) (n : ℕ) (x : Record) (fits : PartsFit file n x) (vi
 
   pub rows-on : n ≤ maxKeys → {after : List ℕ} → Kept fresh (maxKeys * client) n views after → ViewRows (step g (event g (entryOf file n x))) n after
   rows-on few {after} kept =
-      rows-replaced (g .views) (step g (event g (entryOf file n x)) .views) (clientIn x) (viewMeant g (clientIn x) (listingOf file n (listingIn x))) n few
-      (own-view g file n x) (other-views g file n x) views after fresh rows filled (subst (λ (d : ℕ). Kept fresh (maxKeys * d) n views after) is-client kept)
+      rows-replaced (g .views) (step g (event g (entryOf file n x)) .views) (clientIn x) (viewMeant g (clientIn x) (listingOf file n (listingIn x))) n
+      (own-view g file n x) (other-views g file n x) views after fresh rows filled (own .row) (λ e be. kept-rows few own e)
+    where
+      own : Kept fresh (maxKeys * clientIn x) n views after
+      own = subst (λ (d : ℕ). Kept fresh (maxKeys * d) n views after) is-client kept
 
 -- ---- all records
 
@@ -88,14 +91,14 @@ pub record Going (file : List ℕ) (h : Header) (left at : ℕ) (views : List �
   pub to-come : ToCome file h left at made g es
   pub rows : ViewRows g (h .keys) views
 
-pub goes-from : {file : List ℕ} {h : Header} → WholeFile file h → Going file h (h .records) minBytes (replicate viewsLength 1)
+pub goes-from : {file : List ℕ} {h : Header} → WholeFile file h → Going file h (h .records) minBytes (replicate clientRows 1)
 unfolding opening openingStore
 goes-from {file} {h} w = record {
   g = opening (h .keys);
   made = 0;
   es = traceIn w .events;
   to-come = all-to-come w;
-  rows = keeps-opening (h .keys) (w .some-key) (w .few-keys) .in-views .rows;
+  rows = opening-rows (h .keys) (w .few-keys) clientRows (omega arith);
 }
 
 -- the bytes to come
@@ -143,7 +146,7 @@ length-whole e {h = h} w t d =
     sym (length-fileOf (h .keys) (h .clients) (length (traceIn w .events)) (recordsBytes e (h .keys) (opening (h .keys)) (traceIn w .events)))
     ∙ ap (λ (r : Trace). length (encodeIn e r)) (only-trace w t d)
 
-pub reckoned-first : (e : Edition) {file : List ℕ} {h : Header} (w : WholeFile file h) (t : Trace) → decode file ≡ taken t → Reckoned e file h t (h .records) minBytes minBytes (replicate viewsLength 1)
+pub reckoned-first : (e : Edition) {file : List ℕ} {h : Header} (w : WholeFile file h) (t : Trace) → decode file ≡ taken t → Reckoned e file h t (h .records) minBytes minBytes (replicate clientRows 1)
 reckoned-first e w t d = record { going = goes-from w; total = length-whole e w t d }
 
 pub reckoned-on : (e : Edition) {file : List ℕ} {h : Header} {t : Trace} {left at sum : ℕ} {views : List ℕ} (s : Reckoned e file h t left at sum views)
@@ -172,7 +175,7 @@ pub record Written (e : Edition) (file start : List ℕ) (h : Header) (t : Trace
   pub all : putAt buffer to (rest e going) ≡ putAt start minBytes (recordsBytes e (t .keys) (opening (t .keys)) (t .events))
 
 pub written-first : (e : Edition) {file : List ℕ} {h : Header} (w : WholeFile file h) (t : Trace) → decode file ≡ taken t → (start : List ℕ) → length (encodeIn e t) ≤ length start
-    → Written e file start h t (h .records) minBytes minBytes start (replicate viewsLength 1)
+    → Written e file start h t (h .records) minBytes minBytes start (replicate clientRows 1)
 unfolding goes-from
 written-first e w t d start room = record {
   going = goes-from w;

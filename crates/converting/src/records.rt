@@ -18,7 +18,7 @@ ghost use Rattle.trace.specs.Entry.{event};
 ghost use Rattle.trace.specs.Format.{Trace, decode};
 ghost use Rattle.trace.specs.Meaning.{entryOf, WholeFile};
 ghost use Rattle.trace.specs.Edition.{recordBytes, recordsBytes, encodeIn};
-ghost use Rattle.state.specs.Room.{ViewsRoom, FreshRoom};
+ghost use Rattle.state.specs.Room.{ClientRowsRoom, FreshRoom};
 ghost use Rattle.converting.specs.Answers.{editionOf};
 ghost use Rattle.converting.specs.Parts.{PartsFit, ViewRows, longestRecord};
 
@@ -31,7 +31,7 @@ fn one_length(
     fresh: &mut [u64],
     n: usize,
 ) -> usize
-    requires { ⌜ (n ≤ maxKeys) × PartsFit (now file) n x × ViewsRoom (now views) × FreshRoom (now fresh) ⌝ }
+    requires { ⌜ (n ≤ maxKeys) × PartsFit (now file) n x × ClientRowsRoom (now views) × FreshRoom (now fresh) ⌝ }
     ensures few { λ r. ⌜ r ≤ longestRecord ⌝ }
     ensures reckoned { λ r. ⌜ ((g : Configuration) → ViewRows g n (now (views .entry)) → r ≡ length (recordBytes (editionOf edition) n g (event g (entryOf (now (file .entry)) n x)))) ⌝ }
     ensures on { λ _. ⌜ ((g : Configuration) → ViewRows g n (now (views .entry)) → ViewRows (step g (event g (entryOf (now (file .entry)) n x))) n (now (views .exit))) ⌝ }
@@ -48,7 +48,7 @@ pub fn size(edition: Edition, file: &[u8], h: Header) -> usize
     requires { ⌜ WholeFile (now file) h ⌝ }
     ensures { λ r. ⌜ ((t : Trace) → decode (now (file .entry)) ≡ taken t → r ≡ length (encodeIn (editionOf edition) t)) ⌝ }
 {
-    let mut views = [1u64; Store::CLIENTS * Store::KEYS];
+    let mut views = [1u64; state::CLIENT_ROWS];
     let mut fresh = [0u64; state::FRESH];
     let mut sum = Store::HEADER;
     let mut at = Store::HEADER;
@@ -74,7 +74,7 @@ fn write_one(
     fresh: &mut [u64],
     n: usize,
 ) -> usize
-    requires { ⌜ (n ≤ maxKeys) × PartsFit (now file) n x × ViewsRoom (now views) × FreshRoom (now fresh) ⌝ }
+    requires { ⌜ (n ≤ maxKeys) × PartsFit (now file) n x × ClientRowsRoom (now views) × FreshRoom (now fresh) ⌝ }
     requires { ⌜ ((g : Configuration) × ViewRows g n (now views) × (at + length (recordBytes (editionOf edition) n g (event g (entryOf (now file) n x))) ≤ length (now buffer))) ⌝ }
     ensures next { λ to. ⌜ ((g : Configuration) → ViewRows g n (now (views .entry)) → to ≡ at + length (recordBytes (editionOf edition) n g (event g (entryOf (now (file .entry)) n x)))) ⌝ }
     ensures put { λ _. ⌜ ((g : Configuration) → ViewRows g n (now (views .entry))
@@ -94,7 +94,7 @@ pub fn write(edition: Edition, file: &[u8], buffer: &mut [u8], h: Header)
     ensures { λ _. ⌜ ((t : Trace) → decode (now (file .entry)) ≡ taken t
         → now (buffer .exit) ≡ putAt (now (buffer .entry)) minBytes (recordsBytes (editionOf edition) (t .keys) (opening (t .keys)) (t .events))) ⌝ }
 {
-    let mut views = [1u64; Store::CLIENTS * Store::KEYS];
+    let mut views = [1u64; state::CLIENT_ROWS];
     let mut fresh = [0u64; state::FRESH];
     let mut to = Store::HEADER;
     let mut at = Store::HEADER;

@@ -1,29 +1,38 @@
--- No trace that is taken has an image longer than the limits make it. Assumes nothing.
-use Prim.Native.Nat.{ℕ}
-use mathlib.Core.Path.{_≡_, refl}
-use mathlib.Core.List.{List, [], _∷_}
-use native.Mathlib.Omega.{arith}
+-- No trace that is taken has an image longer than the limits make it, and an image that was judged stands within its buffer. Assumes nothing.
+use Prim.Native.Nat.{ℕ, _≤_}
+use mathlib.Core.Path.{_≡_, sym, ap, _∙_, subst}
+use mathlib.Core.List.{List}
+use lib.ListN.{length}
 use Rattle.endian.specs.Endian.{Bytes}
-use Rattle.store.specs.Store.{Configuration, openingStore, opening, Event, shift, commit}
-use Rattle.store.specs.Update.{update, step, final}
-use Rattle.store.proofs.Run.{final-commits}
+use Rattle.store.specs.Image.{image}
+use Rattle.trace.specs.Result.{Result, taken, onTaken}
+use Rattle.trace.specs.Format.{Trace}
 use Rattle.trace.proofs.Decoded.{decoded-well-formed}
-use Rattle.answer.specs.Answer.{ImageFits}
+use Rattle.trace.proofs.Result.{taken-injective, onTaken-taken}
+use Rattle.answer.specs.Output.{Output}
+use Rattle.answer.specs.Answer.{finalStore, accept, Report, report, judged, answer, ImageFits}
+use Rattle.answer.proofs.Output.{answered-made}
 use Rattle.answer.proofs.Taken.{sound-final}
 use Rattle.answer.proofs.Demand3.{accepted-trace, taken-run}
-use Rattle.image.proofs.Sizes.{length-most}
-
--- records change no number of keys
-final-keys : (g : Configuration) (es : List Event) → final g es .store .keys ≡ g .store .keys
-unfolding final step update
-final-keys g [] = refl
-final-keys g (shift d u ∷ es) = final-keys (step g (shift d u)) es
-final-keys g (commit c ∷ es) = final-keys (step g (commit c)) es
+use Rattle.answer.proofs.Recorded.{image-says}
+use Rattle.imaging.proofs.Sizes.{length-most}
+use Rattle.judging.specs.Answers.{Judged, judgedOf, toldAnswer}
 
 pub image-fits : (bytes : List ℕ) → Bytes bytes → ImageFits bytes
-unfolding opening openingStore
 image-fits bytes b t e =
     let read = accepted-trace bytes t e in
-    let w = decoded-well-formed bytes b t (read .0) in
-    length-most _ (sound-final t (taken-run t w (read .1)) .store)
-    (omega (arith, final-commits (opening (t .keys)) (t .events), w .few-commits)) (omega (arith, final-keys (opening (t .keys)) (t .events), w .few-keys))
+    let fits = image-says bytes b t e .fits in
+    length-most _ (sound-final t (taken-run t (decoded-well-formed bytes b t (read .0)) (read .1)) .store) (fits .few-commits) (fits .few-keys)
+
+-- where an answer is told, there was room for the image
+pub image-within : (bytes : List ℕ) (room : ℕ) (j : Judged) → toldAnswer bytes room ≡ taken j → j .imageLength ≤ room
+unfolding toldAnswer answer judged report
+image-within bytes room j e =
+    let (r, said, is-judged) = onTaken-taken (answer bytes room) (λ (r : Report). taken (judgedOf r)) e in
+    let (o, made, told, fits) = answered-made 15 (judged bytes) room r said in
+    let (t, read, is-made) = onTaken-taken (accept bytes) (λ (t : Trace). taken (record { told = report t; bytes = image (finalStore t) })) made in
+    let output = taken-injective is-made in
+    let long : length (o .bytes) ≡ j .imageLength =
+    ap (λ (x : Output Report). length (x .bytes)) (sym output) ∙ ap (λ (x : Output Report). x .told .imageLength) output ∙ ap (λ (x : Report). x .imageLength) told
+    ∙ ap (λ (x : Judged). x .imageLength) (taken-injective is-judged) in
+    subst (λ (n : ℕ). n ≤ room) long fits

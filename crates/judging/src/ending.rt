@@ -10,7 +10,7 @@ ghost use lib.ListN.{length};
 ghost use Rattle.store.specs.Limits.{maxKeys, maxCommits};
 ghost use Rattle.trace.specs.Format.{Trace};
 ghost use Rattle.answer.specs.Answer.{imageAfter};
-ghost use Rattle.state.specs.Room.{VersionsRoom, KeysRoom, CommitsRoom};
+ghost use Rattle.state.specs.Room.{VersionsRoom, KeysRoom, CommitsRoom, ViewsRoom};
 ghost use Rattle.taking.specs.Taking.{Takes};
 ghost use Rattle.judging.specs.Answers.{answerOf, toldAnswer};
 
@@ -20,22 +20,23 @@ pub fn finish(
     versions: &[u64],
     keys: &[u64],
     commits: &[u64],
+    views: &[u64],
     header: Header,
     count: usize,
     verdicts: Verdicts,
 ) -> Answer
-    requires { ⌜ VersionsRoom (now versions) × KeysRoom (now keys) × CommitsRoom (now commits) × (header .keys ≤ maxKeys) × (count ≤ maxCommits) ⌝ }
+    requires { ⌜ VersionsRoom (now versions) × KeysRoom (now keys) × CommitsRoom (now commits) × ViewsRoom (now views) × (header .keys ≤ maxKeys) × (count ≤ maxCommits) ⌝ }
     ensures { λ r. ⌜
-        ((bytes : List ℕ) (t : Trace) → Takes bytes t (now (versions .entry)) (now (keys .entry)) (now (commits .entry)) header count verdicts
+        ((bytes : List ℕ) (t : Trace) → Takes bytes t (now (versions .entry)) (now (keys .entry)) (now (commits .entry)) (now (views .entry)) header count verdicts
         → (answerOf r ≡ toldAnswer bytes (length (now (buffer .entry)))) × (now (buffer .exit) ≡ imageAfter bytes (now (buffer .entry))))
         ⌝ }
 {
     let n = header.keys;
-    let whole = image::size(keys, n, count);
+    let whole = imaging::size(keys, n, count);
     if buffer.len() < whole {
         return Answer::Refused(Refusal::of_record(15, 0));
     }
-    image::write(buffer, versions, keys, commits, n, count, whole);
+    imaging::write(buffer, versions, keys, commits, views, n, count, whole);
     Answer::Judged {
         verdicts,
         records: header.records,

@@ -9,6 +9,7 @@ ghost use mathlib.Core.Path.{_≡_};
 ghost use lib.ListN.{length};
 ghost use Rattle.answer.specs.Answer.{imageAfter, ImageFits};
 ghost use Rattle.answer.specs.Demand3.{Demand3};
+ghost use Rattle.answer.specs.Recorded.{ImageSays};
 ghost use Rattle.judging.specs.Answers.{answerOf, toldAnswer};
 
 // The answer for a file: a refusal with its code, or what was judged.
@@ -28,17 +29,28 @@ pub fn judge(file: &[u8], buffer: &mut [u8]) -> Answer
     ensures image { λ _. ⌜ now (buffer .exit) ≡ imageAfter (now (file .entry)) (now (buffer .entry)) ⌝ }
     ensures longest { λ _. ⌜ ImageFits (now (file .entry)) ⌝ }
     ensures demand3 { λ _. ⌜ Demand3 (now (file .entry)) ⌝ }
+    ensures says { λ _. ⌜ ImageSays (now (file .entry)) ⌝ }
 {
     let s = Store::opening();
     let mut versions = s.versions;
     let mut keys = s.keys;
     let mut commits = s.commits;
-    match taking::take_file(file, &mut versions, &mut keys, &mut commits) {
+    let mut views = [1u64; state::VIEWS];
+    match taking::take_file(file, &mut versions, &mut keys, &mut commits, &mut views) {
         Taking::Refused(refusal) => Answer::Refused(refusal),
         Taking::Taken {
             header,
             commits: count,
             verdicts,
-        } => ending::finish(buffer, &versions, &keys, &commits, header, count, verdicts),
+        } => ending::finish(
+            buffer,
+            &versions,
+            &keys,
+            &commits,
+            &views,
+            header,
+            count,
+            verdicts,
+        ),
     }
 }

@@ -39,6 +39,7 @@ readsNoted s u c t = record {
   versions = λ k. noteRead (valueOf read (c .operations) k) (newest u k) t (s .versions k);
   clientOf = s .clientOf;
   sessionOf = s .sessionOf;
+  viewOf = s .viewOf;
   commits = s .commits;
 }
 
@@ -49,5 +50,6 @@ writesAppended s c t = record {
   versions = λ k. append (valueOf write (c .operations) k) t (s .versions k);
   clientOf = s .clientOf;
   sessionOf = s .sessionOf;
+  viewOf = s .viewOf;
   commits = s .commits;
 }

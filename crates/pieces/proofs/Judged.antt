@@ -19,8 +19,10 @@ use Rattle.trace.specs.Format.{Trace, decode}
 use Rattle.trace.proofs.Result.{refused-taken}
 use Rattle.answer.specs.Output.{Output, answerIn, bufferAfter}
 use Rattle.answer.specs.Answer.{Report, meaningless, unless, accept, judged, answer, imageAfter}
-use Rattle.answer.specs.Demand3.{Demand3}
+use Rattle.answer.specs.Demand3.{Claim}
+use Rattle.answer.specs.Recorded.{Recorded}
 use Rattle.answer.proofs.Demand3.{demand3}
+use Rattle.answer.proofs.Recorded.{image-says}
 use Rattle.judging.specs.Answers.{Judged, judgedOf, toldAnswer}
 use Rattle.judging.proofs.Answered.{Answers, refused-answer}
 use Rattle.pieces.specs.declared.Session.{Session}
@@ -101,8 +103,8 @@ long-refused bytes l =
     ap (λ (d : Result Trace). onTaken d (λ t. unless (meaningless t) t))
     (sym (need-met _ _ _ (omega tests) (need-unmet _ _ _ (omega tests))))
 
-long-claims : (bytes : List ℕ) → maxBytes < length bytes → Demand3 bytes
-long-claims bytes l t e = refused-taken (sym (long-refused bytes l) ∙ e)
+long-claims : (C : Trace → Type 0) (bytes : List ℕ) → maxBytes < length bytes → (t : Trace) → accept bytes ≡ taken t → C t
+long-claims C bytes l t e = refused-taken (sym (long-refused bytes l) ∙ e)
 
 -- the answer and the image
 joined-answer : (s : Session) (kept image bytes : List ℕ) → Has bytes s kept → RoomFor bytes kept
@@ -119,7 +121,7 @@ joined-answer s kept image bytes h room =
     (sym (c .said) ∙ ap (λ (f : List ℕ). toldAnswer f (length image)) same, sym (c .drawn) ∙ ap (λ (f : List ℕ). imageAfter f image) same))
     (lt-or-le maxBytes (length bytes))
 
--- demand 3: the bytes that were kept are bytes, and of more than a file may have nothing is claimed
+-- what is claimed of any taken trace: the bytes that were kept are bytes, and of more than a file may have nothing is claimed
 bytes-take : (n : ℕ) (s : List ℕ) → Bytes s → Bytes (take n s)
 bytes-take n s b i =
     ⊎-elim
@@ -127,17 +129,18 @@ bytes-take n s b i =
     (λ (l : n ≤ i). subst (λ (x : ℕ). x < 256) (sym (List·getD-eq-default (take n s) 0 (omega (arith, length-take n s)))) (omega arith))
     (lt-or-le i n)
 
-joined-claims : (s : Session) (kept bytes : List ℕ) → Bytes kept → Has bytes s kept → RoomFor bytes kept → Demand3 bytes
-joined-claims s kept bytes b h room =
+joined-claims : (C : Trace → Type 0) → ((bytes : List ℕ) → Bytes bytes → (t : Trace) → accept bytes ≡ taken t → C t)
+    → (s : Session) (kept bytes : List ℕ) → Bytes kept → Has bytes s kept → RoomFor bytes kept → (t : Trace) → accept bytes ≡ taken t → C t
+joined-claims C claim s kept bytes b h room =
     ⊎-elim
-    (λ (l : maxBytes < length bytes). long-claims bytes l)
-    (λ (l : length bytes ≤ maxBytes). demand3 bytes (subst Bytes (has-within bytes s kept h l (room l) .1) (bytes-take (s .total) kept b)))
+    (λ (l : maxBytes < length bytes). long-claims C bytes l)
+    (λ (l : length bytes ≤ maxBytes). claim bytes (subst Bytes (has-within bytes s kept h l (room l) .1) (bytes-take (s .total) kept b)))
     (lt-or-le maxBytes (length bytes))
 
 pub judges-joined : (s : Session) (kept image : List ℕ) → Bytes kept → JudgesJoined s kept image
 judges-joined s kept image b bytes h room =
     let a = joined-answer s kept image bytes h room in
-    (a .0, a .1, joined-claims s kept bytes b h room)
+    (a .0, a .1, joined-claims Claim demand3 s kept bytes b h room, joined-claims Recorded image-says s kept bytes b h room)
 
 -- a record that was opened, and any pieces pushed to it, with a buffer that has room for a file: the close answers as `judge` does for the joined bytes
 pub wherever-cut : (kept image : List ℕ) → maxBytes ≤ length kept → (ps : List (List ℕ))

@@ -6,6 +6,7 @@ use lib.ListN.{length, getD}
 use Rattle.store.specs.Limits.{maxBytes}
 use Rattle.answer.specs.Answer.{imageAfter}
 use Rattle.answer.specs.Demand3.{Demand3}
+use Rattle.answer.specs.Recorded.{ImageSays}
 use Rattle.judging.specs.Answers.{toldAnswer}
 use Rattle.pieces.specs.declared.Session.{Session}
 use Rattle.pieces.specs.Piece.{tooMany, roomIn, counted, keptAfter}
@@ -21,11 +22,12 @@ pub record Has (bytes : List ℕ) (s : Session) (kept : List ℕ) : Type 0 where
 abbrev pub RoomFor : List ℕ → List ℕ → Type 0
 RoomFor bytes kept = length bytes ≤ maxBytes → length bytes ≤ length kept
 
--- what the close judges is the file of these bytes, wherever they were cut: its answer and its image buffer are those of the file, and demand 3 holds of it
+-- what the close judges is the file of these bytes, wherever they were cut: its answer and its image buffer are those of the file, demand 3 holds of it, and
+-- its image says its store
 abbrev pub JudgesJoined : Session → List ℕ → List ℕ → Type 0
 JudgesJoined s kept image =
     (bytes : List ℕ) → Has bytes s kept → RoomFor bytes kept
-    → (closeAnswer s kept (length image) ≡ toldAnswer bytes (length image)) × (closeImage s kept image ≡ imageAfter bytes image) × Demand3 bytes
+    → (closeAnswer s kept (length image) ≡ toldAnswer bytes (length image)) × (closeImage s kept image ≡ imageAfter bytes image) × Demand3 bytes × ImageSays bytes
 
 -- ---- any pieces, one after the other
 

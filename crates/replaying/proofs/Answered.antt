@@ -46,7 +46,7 @@ ser-told : (vs : Verdicts) (fs : Level → Option Failure) → verdictsOf vs ≡
 ser-told vs fs e = ap (λ (l : List (Option Told)). getD l 9 none) e
 
 -- what the ending is given
-pub ends-with : {bytes : List ℕ} {t : Trace} {versions keys commits : List ℕ} {h : Header} {count : ℕ} {vs : Verdicts} → Takes bytes t versions keys commits h count vs → Ending bytes h count vs
+pub ends-with : {bytes : List ℕ} {t : Trace} {versions keys commits views : List ℕ} {h : Header} {count : ℕ} {vs : Verdicts} → Takes bytes t versions keys commits views h count vs → Ending bytes h count vs
 ends-with {t = t} {vs = vs} k = record {
   trace = t;
   in-form = k .in-form;

@@ -20,7 +20,7 @@ report-of-B : reportText (taken (record {
   verdicts = none ∷ none ∷ none ∷ none ∷ none ∷ lost 5 ∷ lost 5 ∷ none ∷ lost 5 ∷ lost 8 ∷ [];
   records = 2;
   commits = 2;
-  imageLength = 76;
+  imageLength = 92;
 })) ≡ ascii "records 2 commits 2\nMR accepted\nMW accepted\nRYW accepted\nWFR accepted\nCC accepted\nUA refused record 2 clause 5 key 0 version 1\nPSI refused record 2 clause 5 key 0 version 1\nCP accepted\nSI refused record 2 clause 5 key 0 version 1\nSER refused record 2 clause 8 key 0 version 1\n"
 unfolding reportText countsLine verdictLine decimal lost
 report-of-B = refl

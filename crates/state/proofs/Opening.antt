@@ -21,8 +21,8 @@ use Rattle.store.specs.History.{Wrote, history, held}
 use Rattle.store.proofs.Sound.{opening-first, sound-opening}
 use Rattle.store.proofs.Opening.{opening-history}
 use Rattle.growth.specs.Sessions.{ReadUpTo}
-use Rattle.state.specs.Places.{headPlace, readersPlace, fullPlace, writersPlace, viewPlace, commitsPlace, drawnPlace, barPlace, beforePlace, readPlace, linkPlace, leadPlace, versionsLength, keysLength, viewsLength, seenLength, sessionsLength, commitsLength, linksLength}
-use Rattle.state.specs.Keeps.{IsSet, KeepsVersions, KeepsKeys, KeepsViews, KeepsSessions, KeepsCommits, KeepsLinks, Keeps, WroteKey, CommitOf, FirstLink, Step}
+use Rattle.state.specs.Places.{headPlace, readersPlace, fullPlace, writersPlace, viewPlace, commitsPlace, drawnPlace, barPlace, beforePlace, readPlace, linkPlace, leadPlace, clientRows, versionsLength, keysLength, viewsLength, seenLength, sessionsLength, commitsLength, linksLength}
+use Rattle.state.specs.Keeps.{IsSet, RowIs, KeepsVersions, KeepsKeys, KeepsViews, KeepsSessions, KeepsCommits, KeepsLinks, Keeps, WroteKey, CommitOf, FirstLink, Step}
 
 -- an array of n words x
 abbrev pub filled : ℕ → ℕ → List ℕ
@@ -90,11 +90,17 @@ module _ (keys : ℕ) where
     writers = λ k l. zero-alone _ (ones keysLength (writersPlace k) (omega arith)) (0, wrote-first k l) (λ t (i, w). o .only-first t k i w .0);
   }
 
+  -- the rows of the clients, in an array that has these or more
+  pub opening-rows : keys ≤ maxKeys → (long : ℕ) → clientRows ≤ long → (d : ℕ) → d < maxClients → RowIs keys (filled long 1) d (opening keys .views d)
+  unfolding opening openingStore
+  opening-rows few long enough d b k l = ones long (viewPlace d k) (omega arith) ∙ sym (choose-yes (ltb k keys) 1 0 (lt→ltb k keys l))
+
   keeps-views : 1 ≤ keys → keys ≤ maxKeys → KeepsViews (opening keys) (filled viewsLength 1) (filled seenLength 1)
   unfolding opening openingStore
   keeps-views some few = record {
     room = filled-length viewsLength 1;
-    rows = λ d b k l. ones viewsLength (viewPlace d k) (omega arith) ∙ sym (choose-yes (ltb k keys) 1 0 (lt→ltb k keys l));
+    rows = opening-rows few viewsLength (omega arith);
+    stored = λ t p l. absurd (omega arith);
     seen-room = filled-length seenLength 1;
     holds = λ d b. zero-alone _ (ones seenLength d b)
         (0, 0, sound-opening keys .views d .opened 0 some, wrote-first 0 some)

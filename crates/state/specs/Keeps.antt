@@ -16,7 +16,7 @@ use Rattle.store.specs.Store.{Key, CommitNumber, Client, SessionNumber, View, S
 use Rattle.store.specs.Update.{valueOf}
 use Rattle.store.specs.History.{Wrote, Read, InLog, history, held}
 use Rattle.growth.specs.Sessions.{ReadUpTo}
-use Rattle.state.specs.Places.{numbers, headPlace, readersPlace, fullPlace, writersPlace, viewPlace, commitsPlace, drawnPlace, barPlace, logPlace, beforePlace, readPlace, linkPlace, leadPlace, packed}
+use Rattle.state.specs.Places.{numbers, headPlace, readersPlace, fullPlace, writersPlace, viewPlace, storedRow, commitsPlace, drawnPlace, barPlace, logPlace, beforePlace, readPlace, linkPlace, leadPlace, packed}
 use Rattle.state.specs.Room.{VersionsRoom, KeysRoom, ViewsRoom, SeenRoom, SessionsRoom, CommitsRoom, LinksRoom, FreshRoom, ValuesRoom}
 
 -- a word is the set of the numbers with P
@@ -45,13 +45,18 @@ pub record KeepsKeys (s : Store) (keys : List ℕ) : Type 0 where
 
 -- ---- views
 
--- the row of a client
-abbrev pub RowIs : ℕ → List ℕ → Client → View → Type 0
-RowIs keys views d u = (k : Key) → k < keys → getD views (viewPlace d k) 0 ≡ u k
+-- the view in a row
+abbrev pub RowIs : ℕ → List ℕ → ℕ → View → Type 0
+RowIs keys views row u = (k : Key) → k < keys → getD views (viewPlace row k) 0 ≡ u k
+
+-- of each commit "the view u that it was judged from" (02, E8)
+abbrev pub KeepsStored : Store → List ℕ → Type 0
+KeepsStored s views = (t : CommitNumber) → 0 < t → t ≤ s .commits → RowIs (s .keys) views (storedRow t) (s .viewOf t)
 
 pub record KeepsViews (g : Configuration) (views seen : List ℕ) : Type 0 where
   pub room : ViewsRoom views
   pub rows : (d : Client) → d < maxClients → RowIs (g .store .keys) views d (g .views d)
+  pub stored : KeepsStored (g .store) views
   -- the commits of which the client's view holds a version
   pub seen-room : SeenRoom seen
   pub holds : (d : Client) → d < maxClients → IsSet (getD seen d 0) (Holds (history (g .store)) (held (g .views d)))

@@ -25,12 +25,18 @@ writersPlace k = maxKeys + k
 abbrev pub keysLength : ℕ
 keysLength = 2 * maxKeys
 
--- views: a row for each client
-abbrev pub viewPlace : Client → Key → ℕ
-viewPlace d k = maxKeys * d + k
+-- views: a row for each client; then a row for each commit number, of the view that the commit was judged from
+abbrev pub viewPlace : ℕ → Key → ℕ
+viewPlace row k = maxKeys * row + k
+
+abbrev pub storedRow : CommitNumber → ℕ
+storedRow t = maxClients + t
+
+abbrev pub clientRows : ℕ
+clientRows = maxClients * maxKeys
 
 abbrev pub viewsLength : ℕ
-viewsLength = maxClients * maxKeys
+viewsLength = (maxClients + numbers) * maxKeys
 
 -- seen: a set for each client
 abbrev pub seenLength : ℕ

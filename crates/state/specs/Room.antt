@@ -4,7 +4,7 @@ use Prim.Native.Nat.{ℕ}
 use mathlib.Core.Path.{_≡_}
 use mathlib.Core.List.{List}
 use lib.ListN.{length}
-use Rattle.state.specs.Places.{versionsLength, keysLength, viewsLength, seenLength, sessionsLength, commitsLength, linksLength, freshLength, valuesLength}
+use Rattle.state.specs.Places.{versionsLength, keysLength, clientRows, viewsLength, seenLength, sessionsLength, commitsLength, linksLength, freshLength, valuesLength}
 
 -- ---- each array
 
@@ -16,6 +16,10 @@ KeysRoom keys = length keys ≡ keysLength
 
 abbrev pub ViewsRoom : List ℕ → Type 0
 ViewsRoom views = length views ≡ viewsLength
+
+-- the rows of the clients alone
+abbrev pub ClientRowsRoom : List ℕ → Type 0
+ClientRowsRoom views = length views ≡ clientRows
 
 abbrev pub SeenRoom : List ℕ → Type 0
 SeenRoom seen = length seen ≡ seenLength

@@ -34,8 +34,12 @@ pub const READERS: usize = PER_KEY * Store::KEYS;
 // keys: the sets of writers, after the full masks.
 pub const WRITERS: usize = Store::KEYS;
 
-// views: a row for each client.
+// views: a row for each client; then a row for each commit number.
 pub const PER_CLIENT: usize = Store::KEYS;
+
+pub const CLIENT_ROWS: usize = Store::CLIENTS * PER_CLIENT;
+
+pub const VIEWS: usize = CLIENT_ROWS + Store::NUMBERS * PER_CLIENT;
 
 // sessions: the writers that the commits of each client read from, and the least session number that is free, after its commits.
 pub const DRAWN: usize = Store::CLIENTS;

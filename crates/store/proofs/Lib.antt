@@ -7,3 +7,8 @@ pub mod Numbers
 pub mod Links
 pub mod Run
 pub mod Opening
+pub mod StoredView
+pub mod Masks
+pub mod ImageSizes
+pub mod Reading
+pub mod FitsImage

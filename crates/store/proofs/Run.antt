@@ -77,6 +77,12 @@ Each P g [] = Unit {0}
 Each P g (shift d u ∷ es) = Each P (step g (shift d u)) es
 Each P g (commit c ∷ es) = P g c × Each P (step g (commit c)) es
 
+-- nothing is asked of a commit
+pub each-any : (g : Configuration) (es : List Event) → Each (λ g c. Unit {0}) g es
+each-any g [] = tt
+each-any g (shift d u ∷ es) = each-any (step g (shift d u)) es
+each-any g (commit c ∷ es) = (tt, each-any (step g (commit c)) es)
+
 pub each-both : (P Q : Configuration → Commit → Type 0) (g : Configuration) (es : List Event) → Each P g es → Each Q g es → Each (λ g c. P g c × Q g c) g es
 each-both P Q g [] p q = tt
 each-both P Q g (shift d u ∷ es) p q = each-both P Q (step g (shift d u)) es p q

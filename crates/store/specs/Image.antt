@@ -3,6 +3,7 @@ use Prim.Native.Nat.{ℕ, suc, _+_, _*_, _≤_, _<_}
 use mathlib.Core.List.{List, [], _∷_, _++_}
 use lib.ListN.{length}
 use Rattle.endian.specs.Endian.{leBytes, pieces}
+use Rattle.store.specs.Masks.{viewBytes}
 use Rattle.store.specs.Store.{Key, CommitNumber, Version, Store, count, version}
 
 -- "16 bytes each: value u32, writer u8, three zeros, readers u64 with bit c for commit c"
@@ -13,9 +14,10 @@ versionBytes v = leBytes 4 (v .value) ++ (leBytes 1 (v .writer) ++ (leBytes 3 0 
 unfoldable pub keyBytes : Store → Key → List ℕ
 keyBytes s k = leBytes 4 (count s k) ++ pieces (count s k) (λ i. versionBytes (version s k i))
 
--- "Per commit 8 bytes: client u8, three zeros, session number u32."
+-- "Per commit 8 bytes: client u8, three zeros, session number u32." "K masks by rising key follow each commit's 8 bytes, the view u that it was judged
+-- from" (02, E8)
 unfoldable pub commitBytes : Store → CommitNumber → List ℕ
-commitBytes s t = leBytes 1 (s .clientOf t) ++ (leBytes 3 0 ++ leBytes 4 (s .sessionOf t))
+commitBytes s t = leBytes 1 (s .clientOf t) ++ (leBytes 3 0 ++ (leBytes 4 (s .sessionOf t) ++ viewBytes (s .keys) (s .viewOf t)))
 
 -- what follows the first 8 bytes: the commits in order, then the keys
 unfoldable pub imageBody : Store → List ℕ

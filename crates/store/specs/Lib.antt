@@ -8,4 +8,7 @@ pub mod History
 pub mod View
 pub mod Sound
 pub mod Legal
+pub mod StoredView
+pub mod Masks
 pub mod Image
+pub mod Reading

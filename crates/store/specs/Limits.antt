@@ -28,9 +28,10 @@ minBytes = 12
 abbrev pub maxBytes : ℕ
 maxBytes = 65536
 
--- the image, "can reach 33,408 bytes" (02, E2): its first 8, 8 for each commit, and for each key 4 and 16 for each of its versions
+-- the image: "The limit is then 49,536 bytes for 32 keys" (02, E8): its first 8, for each commit 8 and 8 for each key, and for each key 4 and 16 for each
+-- of its versions
 abbrev pub maxImage : ℕ
-maxImage = 8 + 8 * maxCommits + maxKeys * (4 + 16 * perKey)
+maxImage = 8 + maxCommits * (8 + 8 * maxKeys) + maxKeys * (4 + 16 * perKey)
 
 -- the file of a replay, "65,532, still inside 65,536" (02, E2): its first 12, and for each commit a shift (6, and 8 for each key) and a commit (10,
 -- 8 for each of at most two operations a key, and 8 for each key)

@@ -40,13 +40,19 @@ openingVersion = record { value = 0; writer = 0; readers = 0 }
 abbrev pub View : Type 0
 View = Key → Set
 
--- "The store maps a key to a list of versions"; with the client and session number of each commit, by its number
+-- "The store maps a key to a list of versions"; with the client and session number of each commit, and "the view u that it was judged from" (02, E8), by
+-- its number
 pub record Store : Type 0 where
   pub keys : ℕ
   pub versions : Key → List Version
   pub clientOf : CommitNumber → Client
   pub sessionOf : CommitNumber → SessionNumber
+  pub viewOf : CommitNumber → View
   pub commits : ℕ
+
+-- no version of any key
+abbrev pub noView : View
+noView k = 0
 
 -- the store, and the present view of each client
 pub record Configuration : Type 0 where
@@ -60,6 +66,7 @@ openingStore keys = record {
   versions = λ k. choose (ltb k keys) (openingVersion ∷ []) [];
   clientOf = λ t. 0;
   sessionOf = λ t. 0;
+  viewOf = λ t. noView;
   commits = 0;
 }
 

@@ -11,8 +11,6 @@ pub struct Store {
     pub versions: [u64; 2 * Store::VERSIONS * Store::KEYS],
     // Of each key the mask of all its versions; then of each the set of its writers.
     pub keys: [u64; 2 * Store::KEYS],
-    // The view of each client, a mask for each key.
-    pub views: [u64; Store::CLIENTS * Store::KEYS],
     // Of each client the set of commits of which its view holds a version.
     pub seen: [u64; Store::CLIENTS],
     // Of each client the set of its commits, the set of the writers that they read from, and the least free session number.
@@ -38,7 +36,9 @@ impl Store {
 
     pub const NUMBERS: usize = Store::COMMITS + 1;
     // An image is at most so long.
-    pub const IMAGE: usize = 8 + 8 * Store::COMMITS + Store::KEYS * (4 + 16 * Store::VERSIONS);
+    pub const IMAGE: usize = 8
+        + Store::COMMITS * (8 + 8 * Store::KEYS)
+        + Store::KEYS * (4 + 16 * Store::VERSIONS);
     // The file of a replay is at most so long.
     pub const REPLAY: usize = Store::HEADER + Store::COMMITS * (16 + 32 * Store::KEYS);
 
@@ -60,18 +60,17 @@ impl Store {
         ]
     }
 
-    // "At the start each list is version 0: value 0, writer the opening transaction (number 0), no readers; each client's view is {0}
-    // at each key."
+    // "At the start each list is version 0: value 0, writer the opening transaction (number 0), no readers". The views, "{0} at each key", are an array that
+    // a call makes itself: it is the longest that does not begin with 0, and would be copied out of this.
     pub fn opening() -> Store
         ensures versions { λ r. ⌜ r .versions ≡ replicate (2 * (perKey * maxKeys)) 0 ⌝ }
         ensures keys { λ r. ⌜ r .keys ≡ replicate (2 * maxKeys) 1 ⌝ }
-        ensures views { λ r. ⌜ (r .views ≡ replicate (maxClients * maxKeys) 1) × (r .seen ≡ replicate maxClients 1) ⌝ }
+        ensures seen { λ r. ⌜ r .seen ≡ replicate maxClients 1 ⌝ }
         ensures commits { λ r. ⌜ (r .sessions ≡ replicate (3 * maxClients) 0) × (r .commits ≡ replicate (3 * numbers) 0) × (r .links ≡ replicate (2 * numbers + 2 * maxKeys) 0) ⌝ }
     {
         Store {
             versions: [0; 2 * Store::VERSIONS * Store::KEYS],
             keys: [1; 2 * Store::KEYS],
-            views: [1; Store::CLIENTS * Store::KEYS],
             seen: [1; Store::CLIENTS],
             sessions: [0; 3 * Store::CLIENTS],
             commits: [0; 3 * Store::NUMBERS],

@@ -13,11 +13,11 @@ use Rattle.taking.specs.Taking.{Takes, TakingSays}
 use Rattle.taking.specs.declared.Taking.{Taking}
 use Rattle.taking.specs.declared.Taking.the-variants.{Refused, Taken}
 
-module _ (bytes versions keys commits : List ℕ) {r : Taking} (says : TakingSays bytes versions keys commits r) where
+module _ (bytes versions keys commits views : List ℕ) {r : Taking} (says : TakingSays bytes versions keys commits views r) where
   pub says-refused : {why : Refusal} → r ≡ Refused why → accept bytes ≡ refused (refusalOf why)
   unfolding TakingSays
-  says-refused e = subst (TakingSays bytes versions keys commits) e says
+  says-refused e = subst (TakingSays bytes versions keys commits views) e says
 
-  pub says-taken : {h : Header} {count : ℕ} {vs : Verdicts} → r ≡ Taken h count vs → (t : Trace) × Takes bytes t versions keys commits h count vs
+  pub says-taken : {h : Header} {count : ℕ} {vs : Verdicts} → r ≡ Taken h count vs → (t : Trace) × Takes bytes t versions keys commits views h count vs
   unfolding TakingSays
-  says-taken e = subst (TakingSays bytes versions keys commits) e says
+  says-taken e = subst (TakingSays bytes versions keys commits views) e says

@@ -23,7 +23,7 @@ use Rattle.trace.proofs.Decoded.{IfTaken, EntriesRead, entries-read, decoded-le
 use Rattle.trace.proofs.Entries.{length-eventsOf}
 use Rattle.levels.specs.Level.{Level, Failure, firstFailure}
 use Rattle.answer.specs.Answer.{accept, verdict}
-use Rattle.state.specs.Places.{versionsLength, keysLength, viewsLength, seenLength, sessionsLength, commitsLength, linksLength, valuesLength}
+use Rattle.state.specs.Places.{versionsLength, keysLength, seenLength, sessionsLength, commitsLength, linksLength, valuesLength}
 use Rattle.state.proofs.Opening.{filled, keeps-opening}
 use Rattle.state.specs.Answers.{refusalOf}
 use Rattle.state.specs.declared.Refusal.{Refusal}
@@ -64,12 +64,12 @@ no-value r = let z = zeros valuesLength r in subst (λ (x : ℕ). x < 2 ^ 32) (s
 
 -- the records start on the arrays of the opening store, with no failure
 pub starts : {s : List ℕ} {h : Header} (w : WholeFile s h) {versions keys views seen sessions commits links verdicts values : List ℕ}
-    → Opened versions keys commits
-    → views ≡ filled viewsLength 1 → seen ≡ filled seenLength 1 → sessions ≡ filled sessionsLength 0 → links ≡ filled linksLength 0
+    → Opened versions keys commits views
+    → seen ≡ filled seenLength 1 → sessions ≡ filled sessionsLength 0 → links ≡ filled linksLength 0
     → verdicts ≡ filled verdictsLength 0 → values ≡ filled valuesLength 0
     → Starts s (h .keys) (h .clients) (h .records) (w .entries) versions keys views seen sessions commits links verdicts values
-starts {s} {h} w o e2 e3 e4 e6 e7 e8 =
-    rw (o .in-versions, o .in-keys, o .in-commits, e2, e3, e4, e6, e7, e8) (record {
+starts {s} {h} w o e3 e4 e6 e7 e8 =
+    rw (o .in-versions, o .in-keys, o .in-commits, o .in-views, e3, e4, e6, e7, e8) (record {
       some-key = w .some-key;
       few-keys = w .few-keys;
       some-client = w .some-client;
@@ -99,7 +99,7 @@ module _ {s : List ℕ} (b : Bytes s) {h : Header} (w : WholeFile s h) {count : 
 
   -- the trace is taken: the arrays keep its last store, and the verdicts told are its own
   pub takes : {vs : Verdicts} → ((fs : Level → Option Failure) → KeepsVerdicts fs verdicts → verdictsOf vs ≡ tellAll fs)
-      → Takes s (traceIn w) versions keys commits h count vs
+      → Takes s (traceIn w) versions keys commits views h count vs
   unfolding firstFailure
   takes told = record {
     in-form = w;
@@ -107,6 +107,8 @@ module _ {s : List ℕ} (b : Bytes s) {h : Header} (w : WholeFile s h) {count : 
     in-versions = e .keeps .in-versions;
     in-keys = e .keeps .in-keys;
     in-commits = e .keeps .in-commits;
+    views-room = e .keeps .in-views .room;
+    in-views = e .keeps .in-views .stored;
     all-keys = e .keys-are;
     all-records = length-eventsOf (opening (h .keys)) (w .entries) ∙ records-read b w .counted;
     all-commits = e .counted;

@@ -11,8 +11,9 @@ use Rattle.trace.specs.Format.{Trace}
 use Rattle.trace.specs.Meaning.{WholeFile}
 use Rattle.trace.specs.declared.form.Header.{Header}
 use Rattle.answer.specs.Answer.{finalStore, accept, verdict}
-use Rattle.state.specs.Places.{versionsLength, keysLength, commitsLength}
-use Rattle.state.specs.Keeps.{KeepsVersions, KeepsKeys, KeepsCommits}
+use Rattle.state.specs.Places.{versionsLength, keysLength, commitsLength, viewsLength}
+use Rattle.state.specs.Room.{ViewsRoom}
+use Rattle.state.specs.Keeps.{KeepsVersions, KeepsKeys, KeepsCommits, KeepsStored}
 use Rattle.state.specs.Answers.{refusalOf}
 use Rattle.verdicts.specs.Told.{tellAll, verdictsOf}
 use Rattle.verdicts.specs.declared.told.Verdicts.{Verdicts}
@@ -20,19 +21,22 @@ use Rattle.taking.specs.declared.Taking.{Taking}
 use Rattle.taking.specs.declared.Taking.the-variants.{Refused, Taken}
 
 -- the arrays of the opening store
-pub record Opened (versions keys commits : List ℕ) : Type 0 where
+pub record Opened (versions keys commits views : List ℕ) : Type 0 where
   pub in-versions : versions ≡ replicate versionsLength 0
   pub in-keys : keys ≡ replicate keysLength 1
   pub in-commits : commits ≡ replicate commitsLength 0
+  pub in-views : views ≡ replicate viewsLength 1
 
 -- the bytes are a file in form, with its header h, and are taken as trace t; the arrays keep its last store, of `count` commits: what the ending of a
 -- call needs to know
-pub record Takes (bytes : List ℕ) (t : Trace) (versions keys commits : List ℕ) (h : Header) (count : ℕ) (vs : Verdicts) : Type 0 where
+pub record Takes (bytes : List ℕ) (t : Trace) (versions keys commits views : List ℕ) (h : Header) (count : ℕ) (vs : Verdicts) : Type 0 where
   pub in-form : WholeFile bytes h
   pub accepted : accept bytes ≡ taken t
   pub in-versions : KeepsVersions (finalStore t) versions
   pub in-keys : KeepsKeys (finalStore t) keys
   pub in-commits : KeepsCommits (finalStore t) commits
+  pub views-room : ViewsRoom views
+  pub in-views : KeepsStored (finalStore t) views
   pub all-keys : finalStore t .keys ≡ h .keys
   pub all-records : length (t .events) ≡ h .records
   pub all-commits : finalStore t .commits ≡ count
@@ -43,6 +47,6 @@ pub record Takes (bytes : List ℕ) (t : Trace) (versions keys commits : List �
   pub told : verdictsOf vs ≡ tellAll (λ l. verdict l t)
 
 -- what an answer says of the bytes of a file
-unfoldable pub TakingSays : List ℕ → List ℕ → List ℕ → List ℕ → Taking → Type 0
-TakingSays bytes versions keys commits (Refused r) = accept bytes ≡ refused (refusalOf r)
-TakingSays bytes versions keys commits (Taken h count vs) = (t : Trace) × Takes bytes t versions keys commits h count vs
+unfoldable pub TakingSays : List ℕ → List ℕ → List ℕ → List ℕ → List ℕ → Taking → Type 0
+TakingSays bytes versions keys commits views (Refused r) = accept bytes ≡ refused (refusalOf r)
+TakingSays bytes versions keys commits views (Taken h count vs) = (t : Trace) × Takes bytes t versions keys commits views h count vs

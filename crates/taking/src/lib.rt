@@ -32,13 +32,13 @@ fn take_records(
     versions: &mut [u64],
     keys: &mut [u64],
     commits: &mut [u64],
+    views: &mut [u64],
 ) -> Taking
     requires { ⌜ WholeFile (now file) h × (minBytes ≤ length (now file)) × (length (now file) ≤ maxBytes) ⌝ }
-    requires { ⌜ Opened (now versions) (now keys) (now commits) ⌝ }
-    ensures { λ r. ⌜ TakingSays (now (file .entry)) (now (versions .exit)) (now (keys .exit)) (now (commits .exit)) r ⌝ }
+    requires { ⌜ Opened (now versions) (now keys) (now commits) (now views) ⌝ }
+    ensures { λ r. ⌜ TakingSays (now (file .entry)) (now (versions .exit)) (now (keys .exit)) (now (commits .exit)) (now (views .exit)) r ⌝ }
 {
     let s = Store::opening();
-    let mut views = s.views;
     let mut seen = s.seen;
     let mut sessions = s.sessions;
     let mut links = s.links;
@@ -52,7 +52,7 @@ fn take_records(
         h.records,
         versions,
         keys,
-        &mut views,
+        views,
         &mut seen,
         &mut sessions,
         commits,
@@ -72,23 +72,30 @@ fn take_records(
 }
 
 // The bytes of a file, whatever they are, on the arrays of the opening store.
-pub fn take_file(file: &[u8], versions: &mut [u64], keys: &mut [u64], commits: &mut [u64]) -> Taking
-    requires { ⌜ Opened (now versions) (now keys) (now commits) ⌝ }
-    ensures { λ r. ⌜ TakingSays (now (file .entry)) (now (versions .exit)) (now (keys .exit)) (now (commits .exit)) r ⌝ }
+pub fn take_file(
+    file: &[u8],
+    versions: &mut [u64],
+    keys: &mut [u64],
+    commits: &mut [u64],
+    views: &mut [u64],
+) -> Taking
+    requires { ⌜ Opened (now versions) (now keys) (now commits) (now views) ⌝ }
+    ensures { λ r. ⌜ TakingSays (now (file .entry)) (now (versions .exit)) (now (keys .exit)) (now (commits .exit)) (now (views .exit)) r ⌝ }
 {
     match trace::form::form_of(file) {
         Form::Misshapen { code, record } => Taking::Refused(Refusal::of_record(code, record)),
-        Form::Whole(h) => take_records(file, h, versions, keys, commits),
+        Form::Whole(h) => take_records(file, h, versions, keys, commits, views),
     }
 }
 
 // The same for a call that has no use for the last store: the arrays are made and dropped here.
 pub fn take(file: &[u8]) -> Taking
-    ensures { λ r. ⌜ ((versions : List ℕ) × (keys : List ℕ) × (commits : List ℕ) × TakingSays (now (file .entry)) versions keys commits r) ⌝ }
+    ensures { λ r. ⌜ ((versions : List ℕ) × (keys : List ℕ) × (commits : List ℕ) × (views : List ℕ) × TakingSays (now (file .entry)) versions keys commits views r) ⌝ }
 {
     let s = Store::opening();
     let mut versions = s.versions;
     let mut keys = s.keys;
     let mut commits = s.commits;
-    take_file(file, &mut versions, &mut keys, &mut commits)
+    let mut views = [1u64; state::VIEWS];
+    take_file(file, &mut versions, &mut keys, &mut commits, &mut views)
 }

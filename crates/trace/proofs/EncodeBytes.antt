@@ -11,6 +11,7 @@ use Rattle.sets.specs.Set.{has}
 use Rattle.store.specs.Limits.{minBytes}
 use Rattle.store.specs.Store.{Key, View, Configuration, opening, Operation, Event, shift, commit}
 use Rattle.store.specs.Update.{step}
+use Rattle.store.proofs.Masks.{view-bytes}
 use Rattle.trace.specs.Listed.{listedBytes, touched}
 use Rattle.trace.specs.Format.{Trace}
 use Rattle.trace.specs.Encode.{operationBytes, operationsBytes, viewBytes, eventBytes, eventsBytes, fileHead, fileOf, encode}
@@ -24,10 +25,6 @@ operations-bytes : (os : List Operation) → Bytes (operationsBytes os)
 unfolding operationsBytes
 operations-bytes [] = bytes-none
 operations-bytes (o ∷ os) = bytes-append (operationBytes o) (operationsBytes os) (operation-bytes o) (operations-bytes os)
-
-view-bytes : (keys : ℕ) (u : View) → Bytes (viewBytes keys u)
-unfolding viewBytes
-view-bytes keys u = bytes-pieces keys (λ k. leBytes 8 (u k)) (λ k. bytes-leBytes 8 (u k))
 
 event-bytes : (keys : ℕ) (e : Event) → Bytes (eventBytes keys e)
 unfolding eventBytes

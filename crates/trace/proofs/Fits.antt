@@ -1,13 +1,13 @@
 -- The form of a trace ensures what a store asks of its records before it looks at their meaning. Assumes nothing.
-use Prim.Native.Nat.{ℕ, suc, _<_}
-use mathlib.Core.Path.{subst}
+use Prim.Native.Nat.{ℕ, suc, _^_, _<_}
+use mathlib.Core.Path.{_≡_, sym, subst}
 use mathlib.Core.Bool.{_&&_}
 use mathlib.Core.Option.{Option, some}
 use mathlib.Core.List.{List, [], _∷_}
 use lib.Dec.{T, eqb, eqb→eq}
 use Rattle.search.specs.Choose.{isSome}
 use Rattle.search.proofs.Choose.{choose-ind}
-use Rattle.search.proofs.Tests.{and-right}
+use Rattle.search.proofs.Tests.{and-right, some-none}
 use Rattle.store.specs.Store.{Key, Value, Access, read, write, Operation, Commit, Event, shift, commit}
 use Rattle.store.specs.Update.{sameAccess, valueOf}
 use Rattle.store.specs.Sound as Store
@@ -24,6 +24,15 @@ valueOf-key a keys low (o ∷ os) k rise t =
     choose-ind (λ (x : Option Value). T (isSome x) → k < keys) (sameAccess a (o .access) && eqb (o .key) k) (some (o .value)) (valueOf a os k)
     (λ here s. subst (λ (j : Key). j < keys) (eqb→eq (o .key) k (and-right (sameAccess a (o .access)) (eqb (o .key) k) here)) (rise .0 .of-the-store))
     (λ elsewhere. valueOf-key a keys (suc (rank o)) os k (rise .1)) t
+
+-- and such a value has 32 bits
+pub valueOf-fits : (a : Access) (keys low : ℕ) (os : List Operation) (k : Key) (v : Value) → Rise keys low os → valueOf a os k ≡ some v → v < 2 ^ 32
+unfolding valueOf
+valueOf-fits a keys low [] k v rise e = some-none (sym e)
+valueOf-fits a keys low (o ∷ os) k v rise e =
+    choose-ind (λ (x : Option Value). x ≡ some v → v < 2 ^ 32) (sameAccess a (o .access) && eqb (o .key) k) (some (o .value)) (valueOf a os k)
+    (λ here q. let same : o .value ≡ v = cc in subst (λ (x : Value). x < 2 ^ 32) same (rise .0 .value-fits))
+    (λ elsewhere. valueOf-fits a keys (suc (rank o)) os k v (rise .1)) e
 
 pub commit-fits : (keys clients : ℕ) (c : Commit) → FitsCommit keys clients c → Store.WithinKeys keys c
 commit-fits keys clients c f = record {

@@ -20,6 +20,7 @@ use Rattle.store.specs.Store.{Client, View, Configuration, opening, Access, rea
 use Rattle.store.specs.Update.{step}
 use Rattle.store.specs.View.{FitsView}
 use Rattle.store.proofs.Run.{commitsIn}
+use Rattle.store.proofs.Masks.{view-back}
 use Rattle.trace.specs.Result.{Result, taken, onTaken}
 use Rattle.trace.specs.Entry.{Entry, shifting, committing, every, event, eventsOf}
 use Rattle.trace.specs.Format.{Header, Trace, viewAt, accessOf, operationAt, operationsAt, rankAt, operationFits, operationsFit, whole, shiftLength, shiftAt, commitLength, commitOf, commitAt, recordAt, commitsWith, onRecord, entriesFrom, headerAt, withinLimits, traceOf, decode}
@@ -47,18 +48,6 @@ accessOf-accessNumber read = refl
 accessOf-accessNumber write = refl
 
 module _ (s : List ℕ) where
-  -- the masks of a view
-  view-back : (at keys : ℕ) (u : View) → FitsView keys u → Stands s at (viewBytes keys u) → viewAt s at keys ≡ u
-  unfolding viewAt viewBytes
-  view-back at keys u fits h = fun-ext (λ k. at-key k (decLt k keys))
-    where
-      at-key : (k : ℕ) → Dec (k < keys) → viewAt s at keys k ≡ u k
-      at-key k (yes below) =
-          choose-yes (ltb k keys) (leAt s (at + 8 * k) 8) 0 (lt→ltb _ _ below)
-          ∙ read-fitting 8 (u k) (fits .word k) (stands-piece keys 8 k (λ j. leBytes 8 (u j)) (λ j. length-leBytes 8 (u j)) below h)
-      at-key k (no beyond) =
-          choose-no (ltb k keys) (leAt s (at + 8 * k) 8) 0 (le→nltb k keys (omega arith)) ∙ sym (fits .beyond k (omega arith))
-
   -- the four numbers of an operation
   operation-numbers : (at : ℕ) (o : Operation) → o .key < 256 → o .value < 2 ^ 32 → Stands s at (operationBytes o)
       → (leAt s at 1 ≡ accessNumber (o .access)) × (leAt s (at + 1) 1 ≡ o .key) × (leAt s (at + 2) 2 ≡ 0) × (leAt s (at + 4) 4 ≡ o .value)
@@ -109,7 +98,7 @@ module _ (s : List ℕ) where
       let kind = read-first 2 _ _ (lit< tt) from-kind in
       let client = read-first 1 _ _ (omega arith) from-client in
       let spare = read-first 1 _ _ (lit< tt) from-spare in
-      let view = view-back (at + 6) (h .keys) u (fits .view-fits) from-view in
+      let view = view-back s (at + 6) (h .keys) u (fits .view-fits) from-view in
       let four : at + 4 ≤ length s = omega arith in
       let ends : at + shiftLength (h .keys) ≤ length s = omega arith in
       let below : leAt s (at + 4) 1 < h .clients = omega arith in
@@ -143,7 +132,7 @@ module _ (s : List ℕ) where
       let count : leAt s (at + 5) 1 ≡ m = read-first 1 _ _ (omega arith) from-count in
       let session = read-first 4 _ _ (fits .session-fits) from-session in
       let (operations, fit) = operations-back (c .operations) (at + 10) (h .keys) 0 few-keys (fits .rising) (stands-first _ _ from-operations) in
-      let view = view-back (at + (10 + 8 * m)) (h .keys) (c .viewAfter) (fits .view-fits) from-view in
+      let view = view-back s (at + (10 + 8 * m)) (h .keys) (c .viewAfter) (fits .view-fits) from-view in
       let four : at + 4 ≤ length s = omega arith in
       let five : at + 5 < length s = omega arith in
       let ends : at + commitLength (h .keys) m ≤ length s = omega arith in

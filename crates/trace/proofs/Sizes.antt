@@ -8,6 +8,7 @@ use Rattle.endian.specs.Endian.{leBytes}
 use Rattle.endian.proofs.Laws.{length-leBytes, length-leBytes-append, length-pieces}
 use Rattle.store.specs.Limits.{minBytes}
 use Rattle.store.specs.Store.{View, Operation, Event, shift, commit}
+use Rattle.store.proofs.Masks.{length-viewBytes}
 use Rattle.trace.specs.Format.{Trace, shiftLength, commitLength}
 use Rattle.trace.specs.Encode.{operationBytes, operationsBytes, viewBytes, eventBytes, eventsBytes, fileHead, fileOf, encode}
 
@@ -22,10 +23,6 @@ length-operationsBytes (o ∷ os) =
     let first = length-operationBytes o in
     let rest = length-operationsBytes os in
     length-append (operationBytes o) (operationsBytes os) ∙ omega arith
-
-pub length-viewBytes : (keys : ℕ) (u : View) → length (viewBytes keys u) ≡ 8 * keys
-unfolding viewBytes
-length-viewBytes keys u = length-pieces keys 8 (λ k. leBytes 8 (u k)) (λ k. length-leBytes 8 (u k))
 
 -- the length of a record: "6 + 8K", "10 + 8m + 8K"
 abbrev pub eventLength : ℕ → Event → ℕ

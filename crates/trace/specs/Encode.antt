@@ -2,9 +2,10 @@
 use Prim.Native.Nat.{ℕ, _+_}
 use mathlib.Core.List.{List, [], _∷_, _++_}
 use lib.ListN.{length}
-use Rattle.endian.specs.Endian.{leBytes, pieces}
+use Rattle.endian.specs.Endian.{leBytes}
 use Rattle.store.specs.Limits.{minBytes}
-use Rattle.store.specs.Store.{View, Access, read, write, Operation, Commit, Event, shift, commit}
+use Rattle.store.specs.Store.{Access, read, write, Operation, Commit, Event, shift, commit}
+unfoldable pub use Rattle.store.specs.Masks.{viewBytes}
 use Rattle.trace.specs.Format.{Trace, shiftLength, commitLength}
 
 -- "0 read or 1 write"
@@ -19,10 +20,6 @@ operationBytes o = leBytes 1 (accessNumber (o .access)) ++ (leBytes 1 (o .key) +
 unfoldable pub operationsBytes : List Operation → List ℕ
 operationsBytes [] = []
 operationsBytes (o ∷ os) = operationBytes o ++ operationsBytes os
-
--- "K view masks u64"
-unfoldable pub viewBytes : ℕ → View → List ℕ
-viewBytes keys u = pieces keys (λ k. leBytes 8 (u k))
 
 -- "u16 length of the whole record, u16 kind, body"
 unfoldable pub eventBytes : ℕ → Event → List ℕ

@@ -6,17 +6,18 @@ ghost use lib.Dec.{T};
 ghost use lib.ListN.{length, getD};
 ghost use mathlib.Core.List.{List};
 ghost use Rattle.sets.specs.Set.{union};
-ghost use Rattle.store.specs.Limits.{maxKeys, maxCommits};
+ghost use Rattle.store.specs.Limits.{maxKeys, maxCommits, numbers};
 ghost use Rattle.store.specs.Store.{View, Store, Commit};
 ghost use Rattle.store.specs.Missing.{missing};
 ghost use Rattle.store.specs.Refusal.{badMask, allOf, stray};
 ghost use Rattle.store.specs.View.{IsView};
 ghost use Rattle.growth.specs.Made.{Made};
-ghost use Rattle.state.specs.Room.{KeysRoom, FreshRoom};
+ghost use Rattle.state.specs.Places.{viewPlace, storedRow, clientRows};
+ghost use Rattle.state.specs.Room.{KeysRoom, ViewsRoom, FreshRoom};
 ghost use Rattle.state.specs.Keeps.{KeepsKeys, KeepsMasks, KeepsOperations};
 ghost use Rattle.state.specs.Answers.{placeOf, keyOf};
 ghost use Rattle.state.specs.Rows.{RowAt};
-ghost use Rattle.views.specs.Rows.{Kept};
+ghost use Rattle.views.specs.Rows.{Moved, Kept};
 ghost use Rattle.views.specs.Strays.{strays};
 ghost use Rattle.views.specs.Own.{AddsOwn, ownMask};
 
@@ -137,6 +138,26 @@ pub fn adds_own(
         k = k + 1;
     }
     all == 0
+}
+
+// A commit's number, which was judged from the view at `base`: the view is stored in the commit's own row, and the masks become the view at `base`.
+pub fn store_and_keep(
+    views: &mut [u64],
+    base: usize,
+    fresh: &[u64],
+    n: usize,
+    me: state::CommitNumber,
+)
+    requires { ⌜ (n ≤ maxKeys) × (me .0 < numbers) × (base + n ≤ clientRows) × FreshRoom (now fresh) × ViewsRoom (now views) ⌝ }
+    ensures { λ _. ⌜ Moved (now (fresh .entry)) base (viewPlace (storedRow (me .0)) 0) n (now (views .entry)) (now (views .exit)) ⌝ }
+{
+    let place = state::CLIENT_ROWS + state::PER_CLIENT * me.0;
+    let mut k: usize = 0;
+    while k < n {
+        views[place + k] = views[base + k];
+        views[base + k] = fresh[k];
+        k = k + 1;
+    }
 }
 
 // The masks become the view at `base`.

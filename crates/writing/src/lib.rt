@@ -28,7 +28,7 @@ fn put_start(buffer: &mut [u8], at: usize, size: usize, kind: u16, first: usize,
 }
 
 // "K view masks u64", from the row of `masks` that starts at `base`.
-fn put_masks(buffer: &mut [u8], at: usize, masks: &[u64], base: usize, n: usize)
+pub fn put_masks(buffer: &mut [u8], at: usize, masks: &[u64], base: usize, n: usize)
     requires { ⌜ (base + n ≤ length (now masks)) × (at + 8 * n ≤ length (now buffer)) ⌝ }
     ensures { λ _. ⌜ ((u : View) → RowAt n (now (masks .entry)) base u → now (buffer .exit) ≡ putAt (now (buffer .entry)) at (viewBytes n u)) ⌝ }
 {

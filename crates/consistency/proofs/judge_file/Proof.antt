@@ -4,6 +4,7 @@ use native.Mathlib.Omega.{arith}
 use denote.Ref.{now}
 use Rattle.endian.specs.Endian.{Bytes}
 use Rattle.answer.proofs.Demand3.{demand3}
+use Rattle.answer.proofs.Recorded.{image-says}
 use Rattle.judging.proofs.Longest.{image-fits}
 use Rattle.words.specs.Layout.{judgedWords}
 use Rattle.words.proofs.PutWords.{told-words}
@@ -16,7 +17,7 @@ bytes : (c : tie.Then1) → Bytes (now (c .before .before .before .before .args 
 bytes c i = c .before .before .before .shared-slice-known .given i .fits
 
 returns : tie.Need-returns
-returns c = (λ l. (refl, refl, refl), (λ l. absurd (omega arith), (image-fits _ (bytes c), demand3 _ (bytes c))))
+returns c = (λ l. (refl, refl, refl), (λ l. absurd (omega arith), (image-fits _ (bytes c), (demand3 _ (bytes c), image-says _ (bytes c)))))
 
 judge-requires : tie.Need-judge-requires
 judge-requires c κs = search needs

@@ -1,17 +1,24 @@
 -- `consistency::report_file` meets its contract: what it writes is the text of what `judge` answers. Assumes nothing.
 use mathlib.Core.Path.{refl}
 use native.Mathlib.Omega.{arith}
+use denote.Ref.{now}
+use Rattle.endian.specs.Endian.{Bytes}
 use Rattle.answer.proofs.Demand3.{demand3}
+use Rattle.answer.proofs.Recorded.{image-says}
 use borrow.Author.Needs.{needs}
 use Rattle.consistency.proofs.report_file.Statement.{statement}
 use Rattle.consistency.proofs.report_file.Tie as tie
+
+-- the bytes of the file are bytes
+bytes : (c : tie.Then1) → Bytes (now (c .before .before .before .before .args .file))
+bytes c i = c .before .before .before .shared-slice-known .given i .fits
 
 returns : tie.Need-returns
 returns c = (
   λ l. (refl, refl, refl),
   (
     λ l. absurd (omega arith),
-    (omega arith, demand3 _ (λ i. c .before .before .before .shared-slice-known .given i .fits)),
+    (omega arith, (demand3 _ (bytes c), image-says _ (bytes c))),
   ),
 )
 

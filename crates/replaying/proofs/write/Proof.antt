@@ -30,7 +30,7 @@ enum-known-header c = search needs
 finish-requires : tie.Need-finish-requires
 finish-requires c κs =
     let taken = c .before .before .before .before .take .ensures in
-    ends-with (says-taken _ _ _ _ (taken .3) (c .before .before .header .given .1) .1)
+    ends-with (says-taken _ _ _ _ _ (taken .4) (c .before .before .header .given .1) .1)
 
 returns : tie.Need-returns
 unfolding replayAnswer
@@ -38,7 +38,7 @@ returns c =
     let at = c .before .before .before in
     let file = now (begun at .args .file) in
     let buffer = now (begun at .args .buffer) in
-    let a = refused-replay file buffer _ (says-refused _ _ _ _ (at .take .ensures .3) (c .before .refusal .given .1)) in
+    let a = refused-replay file buffer _ (says-refused _ _ _ _ _ (at .take .ensures .4) (c .before .refusal .given .1)) in
     (a .said, (a .left, (subst (ReadsBack file (length buffer)) (sym (a .left)) (reads-back file (bytes at) buffer), replay-fits file (bytes at))))
 
 same-length : tie.Need-same-length

@@ -23,10 +23,10 @@ enum-known-h c = search needs
 
 take-records-requires : tie.Need-take-records-requires
 take-records-requires c κs =
-    let form = c .before .before .before .before .before .before in
-    let start = form .before .before .before .before .before in
-    let b : Bytes (now (start .args .file)) = λ i. form .before .before .before .before .shared-slice-known .given i .fits in
-    let w = whole-of (form .form-of .ensures) (c .before .before .before .before .h .given .1) in
+    let form = c .before .before .before .before .before .before .before in
+    let start = form .before .before .before .before .before .before in
+    let b : Bytes (now (start .args .file)) = λ i. form .before .before .before .before .before .shared-slice-known .given i .fits in
+    let w = whole-of (form .form-of .ensures) (c .before .before .before .before .before .h .given .1) in
     let l = whole-length b w in
     ((w, l .0, l .1), start .pre)
 
@@ -44,6 +44,9 @@ same-length-2 c = search needs
 same-length-3 : tie.Need-same-length-3
 same-length-3 c = search needs
 
+same-length-4 : tie.Need-same-length-4
+same-length-4 c = search needs
+
 returns-2 : tie.Need-returns-2
 returns-2 c = search needs
 
@@ -60,4 +63,5 @@ take-file-spec =
     same-length
     same-length-2
     same-length-3
+    same-length-4
     returns-2)

@@ -18,29 +18,29 @@ use Rattle.taking.proofs.take_records.Tie as tie
 -- ---- the ways back: from the call of `run_all` to the start and to the opening store, and from where each answer is given to that call
 
 abbrev opened : tie.After-fresh → tie.After-opening
-opened c = c .before .before .before .before .before .before .before .before .before .before .before .before .before .before
+opened c = c .before .before .before .before .before .before .before .before .before .before .before .before .before
 
 abbrev begun : tie.After-fresh → tie.Start
-begun c = opened c .before .before .before .before .before
+begun c = opened c .before .before .before .before .before .before
 
 abbrev refused : tie.After-known-told → tie.After-run-all
-refused c = c .before .before .before .before .before .before .before .before .before .before .before .before .before .before .before .before
+refused c = c .before .before .before .before .before .before .before .before .before .before .before .before .before .before .before .before .before
 
 abbrev done : tie.After-verdicts-from → tie.After-run-all
-done c = c .before .before .before .before .before .before .before .before .before .before .before .before .before .before .before .before .before .before
+done c = c .before .before .before .before .before .before .before .before .before .before .before .before .before .before .before .before .before .before .before
 
 -- the bytes of the file are bytes
 bytes : (c : tie.After-fresh) → Bytes (now (begun c .args .file))
-bytes c i = opened c .before .before .before .before .shared-slice-known .given i .fits
+bytes c i = opened c .before .before .before .before .before .shared-slice-known .given i .fits
 
 -- the records start on these arrays
 started : (c : tie.After-fresh)
     → let a = begun c .args in
     let o = opened c .opening .result in
-    Starts (now (a .file)) (a .h .keys) (a .h .clients) (a .h .records) (begun c .pre .0 .0 .entries) (now (a .versions)) (now (a .keys)) (o .views) (o .seen) (o .sessions) (now (a .commits)) (o .links) (replicate verdictsLength 0) (replicate valuesLength 0)
+    Starts (now (a .file)) (a .h .keys) (a .h .clients) (a .h .records) (begun c .pre .0 .0 .entries) (now (a .versions)) (now (a .keys)) (now (a .views)) (o .seen) (o .sessions) (now (a .commits)) (o .links) (replicate verdictsLength 0) (replicate valuesLength 0)
 started c =
     let o = opened c .opening .ensures in
-    starts (begun c .pre .0 .0) (begun c .pre .1) (o .1 .1 .0 .0) (o .1 .1 .0 .1) (o .1 .1 .1 .0) (o .1 .1 .1 .2) refl refl
+    starts (begun c .pre .0 .0) (begun c .pre .1) (o .1 .1 .0) (o .1 .1 .1 .0) (o .1 .1 .1 .2) refl refl
 
 opening-requires : tie.Need-opening-requires
 opening-requires c κs = search needs
@@ -62,9 +62,6 @@ slice-aggregate-run-all-5 c = search needs
 
 slice-aggregate-run-all-6 : tie.Need-slice-aggregate-run-all-6
 slice-aggregate-run-all-6 c = search needs
-
-slice-aggregate-run-all-7 : tie.Need-slice-aggregate-run-all-7
-slice-aggregate-run-all-7 c = search needs
 
 run-all-requires : tie.Need-run-all-requires
 run-all-requires c κs =
@@ -109,6 +106,9 @@ same-length-2 c = search needs
 same-length-3 : tie.Need-same-length-3
 same-length-3 c = search needs
 
+same-length-4 : tie.Need-same-length-4
+same-length-4 c = search needs
+
 returns : tie.Need-returns
 unfolding TakingSays
 returns c =
@@ -116,14 +116,17 @@ returns c =
     let w = begun at .pre .0 .0 in
     refused-meaning _ (traceIn w) (w .decoded) _ (ran-refused _ _ _ _ _ _ _ _ _ _ _ (refused c .run-all .ensures (w .entries) (started at)) (c .before .ran .given .1))
 
-same-length-4 : tie.Need-same-length-4
-same-length-4 c = search needs
-
 same-length-5 : tie.Need-same-length-5
 same-length-5 c = search needs
 
 same-length-6 : tie.Need-same-length-6
 same-length-6 c = search needs
+
+same-length-7 : tie.Need-same-length-7
+same-length-7 c = search needs
+
+same-length-8 : tie.Need-same-length-8
+same-length-8 c = search needs
 
 returns-2 : tie.Need-returns-2
 unfolding TakingSays
@@ -143,7 +146,6 @@ take-records-spec =
     slice-aggregate-run-all-4
     slice-aggregate-run-all-5
     slice-aggregate-run-all-6
-    slice-aggregate-run-all-7
     run-all-requires
     enum-known-ran
     enum-known-ran-2
@@ -152,8 +154,10 @@ take-records-spec =
     same-length
     same-length-2
     same-length-3
-    returns
     same-length-4
+    returns
     same-length-5
     same-length-6
+    same-length-7
+    same-length-8
     returns-2)

@@ -9,7 +9,7 @@ use Rattle.endian.specs.Endian.{leBytes, putAt, pieces}
 use Rattle.endian.proofs.Put.{put-none, put-piece}
 use Rattle.store.specs.Store.{View}
 use Rattle.trace.specs.Encode.{viewBytes}
-use Rattle.trace.proofs.Sizes.{length-viewBytes}
+use Rattle.store.proofs.Masks.{length-viewBytes}
 use Rattle.state.specs.Rows.{RowAt}
 use Rattle.writing.proofs.put_masks.Statement.{statement}
 use Rattle.writing.proofs.put_masks.Tie as tie

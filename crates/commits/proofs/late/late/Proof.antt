@@ -64,8 +64,8 @@ mul-base c = search needs
 judge-requires : tie.Need-judge-requires
 judge-requires c κs = search needs
 
-keep-requires : tie.Need-keep-requires
-keep-requires c κs = search needs
+store-and-keep-requires : tie.Need-store-and-keep-requires
+store-and-keep-requires c κs = search needs
 
 mul-seen : tie.Need-mul-seen
 mul-seen c = let l = c .before .before .before .before .before .before .before .before .before .before .before .before .before .before .before .before .before .before .before .before .before .before .before .before .pre .2 in search needs
@@ -98,7 +98,7 @@ returns-2 c =
     let x = subst (AfterSays _ g e) (c .before .before .before .before .before .before .before .before .before .before .before .after .given .1) (said (c .before .before .before .before .before .before .before .before .before .before .before .before .before) g e values h j) in (
       x .0,
       λ taken. (
-        late-kept h (p .2) (p .1) _ (c .before .before .keep .ensures) (x .1),
+        late-kept h (p .2) (p .1) _ (c .before .before .store-and-keep .ensures) (x .1),
         noted g e _ fs (c .before .before .before .before .before .before .judge .ensures (g .store) (viewBefore g e) e values fs (after-commit h (p .2) _ j (own-is (c .before .before .before .before .before .before .before .before .before .before .before .before .before .before .before .before) g e values h) x) k),
       ),
     )
@@ -115,7 +115,7 @@ late-spec =
     slice-read-t28
     mul-base
     judge-requires
-    keep-requires
+    store-and-keep-requires
     mul-seen
     slice-write-seen
     same-length

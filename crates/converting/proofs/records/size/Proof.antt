@@ -9,7 +9,7 @@ use Rattle.trace.specs.Result.{taken}
 use Rattle.trace.specs.Format.{Trace, decode}
 use Rattle.trace.specs.Meaning.{RecordSays}
 use Rattle.trace.specs.declared.records.Reading.the-variants.{Whole}
-use Rattle.state.specs.Room.{ViewsRoom, FreshRoom}
+use Rattle.state.specs.Room.{ClientRowsRoom, FreshRoom}
 use Rattle.converting.specs.Answers.{editionOf}
 use Rattle.converting.specs.Parts.{longestRecord}
 use Rattle.converting.proofs.Going.{first-in-form, this-parts, Reckoned, reckoned-first, reckoned-on, reckoned-all}
@@ -19,7 +19,7 @@ use Rattle.converting.proofs.records.size.Tie as tie
 
 abbrev Inv-loop : tie.InvT-loop
 Inv-loop edition file h views₀ fresh₀ sum₀ at₀ left₀ views fresh sum at left =
-    ViewsRoom views × FreshRoom fresh × (sum + longestRecord * left ≤ 12 + longestRecord * h .records)
+    ClientRowsRoom views × FreshRoom fresh × (sum + longestRecord * left ≤ 12 + longestRecord * h .records)
     × ((t : Trace) → decode file ≡ taken t → Reckoned (editionOf edition) file h t left at sum views)
 
 abbrev μ-loop : tie.MeasureT-loop

@@ -9,7 +9,7 @@ use Rattle.trace.specs.Result.{taken}
 use Rattle.trace.specs.Format.{Trace, decode}
 use Rattle.trace.specs.Meaning.{RecordSays}
 use Rattle.trace.specs.declared.records.Reading.the-variants.{Whole}
-use Rattle.state.specs.Room.{ViewsRoom, FreshRoom}
+use Rattle.state.specs.Room.{ClientRowsRoom, FreshRoom}
 use Rattle.converting.specs.Answers.{editionOf}
 use Rattle.converting.proofs.Going.{first-in-form, this-parts, Written, written-first, written-room, written-on, written-all}
 use borrow.Author.Needs.{needs}
@@ -18,7 +18,7 @@ use Rattle.converting.proofs.records.write.Tie as tie
 
 abbrev Inv-loop : tie.InvT-loop
 Inv-loop edition file buffer₀ h views₀ fresh₀ to₀ at₀ left₀ buffer views fresh to at left =
-    ViewsRoom views × FreshRoom fresh × (length buffer ≡ length buffer₀)
+    ClientRowsRoom views × FreshRoom fresh × (length buffer ≡ length buffer₀)
     × ((t : Trace) → decode file ≡ taken t → Written (editionOf edition) file buffer₀ h t left at to buffer views)
 
 abbrev μ-loop : tie.MeasureT-loop
