@@ -409,6 +409,8 @@ struct Store<const WIDTH: usize> {
     own: [Row<WIDTH>; SLOTS],
     /// `full` as it was after each commit.
     history: [Row<WIDTH>; SLOTS],
+    /// The view that each commit was judged from, for the image.
+    views: [Row<WIDTH>; SLOTS],
 }
 
 impl<const WIDTH: usize> Store<WIDTH> {
@@ -422,6 +424,7 @@ impl<const WIDTH: usize> Store<WIDTH> {
             log: [Commit::default(); SLOTS],
             own: [[0; WIDTH]; SLOTS],
             history: [[0; WIDTH]; SLOTS],
+            views: [[0; WIDTH]; SLOTS],
         }
     }
 
@@ -451,6 +454,7 @@ impl<const WIDTH: usize> Store<WIDTH> {
         let reads = self.read(&client.view, operations.reads(), me)?;
         let writes = self.write(operations.writes(), me);
         self.history[me] = self.full;
+        self.views[me] = client.view;
         let commit = Commit {
             client: number as u8,
             session,
@@ -625,7 +629,7 @@ impl<const WIDTH: usize> Store<WIDTH> {
             .iter()
             .map(|&mask| highest(mask) + 1)
             .sum();
-        8 + 8 * self.commits + 4 * keys + 16 * versions
+        8 + commit_len(keys) * self.commits + 4 * keys + 16 * versions
     }
 
     /// Writes the image into a buffer of exactly its length.
@@ -635,9 +639,12 @@ impl<const WIDTH: usize> Store<WIDTH> {
         head[..4].copy_from_slice(&length.to_le_bytes());
         head[4..].copy_from_slice(&[keys as u8, self.commits as u8, 0, 0]);
 
-        let (commits, mut rest) = rest.split_at_mut(8 * self.commits);
-        for (bytes, commit) in commits.chunks_exact_mut(8).zip(&self.log[1..]) {
-            bytes.copy_from_slice(&pair(u32::from(commit.client), commit.session));
+        let (commits, mut rest) = rest.split_at_mut(commit_len(keys) * self.commits);
+        let entries = commits.chunks_exact_mut(commit_len(keys));
+        for ((bytes, commit), view) in entries.zip(&self.log[1..]).zip(&self.views[1..]) {
+            let (author, masks) = bytes.split_at_mut(8);
+            author.copy_from_slice(&pair(u32::from(commit.client), commit.session));
+            put_masks(masks, view);
         }
         for (versions, &mask) in self.versions.iter().zip(&self.full).take(keys) {
             let versions = &versions[..=highest(mask)];
@@ -650,6 +657,18 @@ impl<const WIDTH: usize> Store<WIDTH> {
             }
             rest = after;
         }
+    }
+}
+
+/// The bytes of a commit in the image, with its view.
+fn commit_len(keys: usize) -> usize {
+    8 + 8 * keys
+}
+
+/// The masks of a row, as many as there is room for.
+fn put_masks<const WIDTH: usize>(bytes: &mut [u8], row: &Row<WIDTH>) {
+    for (bytes, mask) in bytes.chunks_exact_mut(8).zip(row) {
+        bytes.copy_from_slice(&mask.to_le_bytes());
     }
 }
 

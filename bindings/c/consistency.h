@@ -26,7 +26,7 @@ extern "C" {
 /* The most bytes that a trace file may have; a longer one is code 1, and none is written. */
 #define CONSISTENCY_LONGEST_FILE 65536
 /* No image is longer; a buffer of this length is never too short. */
-#define CONSISTENCY_LONGEST_IMAGE 33408
+#define CONSISTENCY_LONGEST_IMAGE 49536
 /* No replay is longer; a buffer of this length is never too short. */
 #define CONSISTENCY_LONGEST_REPLAY 65532
 /* No report is longer. */
@@ -83,7 +83,8 @@ extern "C" {
 
 /* Judges the trace file in the first `file_length` bytes at `file`.
  *
- * Code 0: the image of its store stands at the start of `image`, and CONSISTENCY_JUDGE_WORDS words are written:
+ * Code 0: the image of its store, which has the view that each commit was judged from, stands at the start of `image`, and
+ * CONSISTENCY_JUDGE_WORDS words are written:
  *
  *     0       1         2         3
  *     0       records   commits   length of the image
@@ -96,7 +97,7 @@ uint64_t judge_file(const uint8_t *file, size_t file_length,
                     uint64_t *words, size_t words_length);
 
 #define CONSISTENCY_JUDGE_WORDS 44
-#define CONSISTENCY_JUDGE_STACK 65536
+#define CONSISTENCY_JUDGE_STACK 81920
 
 /* Where the four words of each level begin. A level fails at the first commit that fails one of its clauses, by the lowest of these:
  *
@@ -155,7 +156,7 @@ uint64_t replay_file(const uint8_t *file, size_t file_length,
                      uint64_t *words, size_t words_length);
 
 #define CONSISTENCY_REPLAY_WORDS 5
-#define CONSISTENCY_REPLAY_STACK 65536
+#define CONSISTENCY_REPLAY_STACK 81920
 
 /* Write the trace in the first `file_length` bytes at `file` in its short edition, where each shift has masks for the keys that change alone and
  * each commit has masks for the keys that have an operation; or in its long edition, where each record has masks for all keys. `judge_file` gives
@@ -176,7 +177,7 @@ uint64_t long_file(const uint8_t *file, size_t file_length,
                    uint64_t *words, size_t words_length);
 
 #define CONSISTENCY_CONVERSION_WORDS 5
-#define CONSISTENCY_CONVERSION_STACK 65536
+#define CONSISTENCY_CONVERSION_STACK 81920
 
 /* Judges the trace file as `judge_file` does and writes the report, text with a line feed at the end of each line and no 0 byte, at the
  * start of `text`. Answers the length of the report. Where `text` has less than CONSISTENCY_LONGEST_REPORT bytes nothing is judged or
@@ -185,7 +186,7 @@ size_t report_file(const uint8_t *file, size_t file_length,
                    uint8_t *image, size_t image_length,
                    uint8_t *text, size_t text_length);
 
-#define CONSISTENCY_REPORT_STACK 65536
+#define CONSISTENCY_REPORT_STACK 81920
 
 /* A trace file that comes in pieces, of any size and cut anywhere, empty ones too. The record stays with the caller, and each call changes it
  * in place; the bytes are kept in a second place, `kept`, which is to have CONSISTENCY_LONGEST_FILE bytes and is lent with each call, the same
@@ -232,7 +233,7 @@ size_t report_session(struct consistency_session *session,
 
 /* For `open_session` and `push_piece`, and for `close_session` and `report_session`. */
 #define CONSISTENCY_PUSH_STACK 4096
-#define CONSISTENCY_CLOSE_STACK 65536
+#define CONSISTENCY_CLOSE_STACK 81920
 
 #ifdef __cplusplus
 }

@@ -22,6 +22,8 @@ fn main() -> std::io::Result<()> {
         fs::write(at(&format!("crates/{program}/stdin")), &b)?;
         fs::write(at(&format!("crates/{program}/stdout")), report_of(&b))?;
     }
+    fs::write(at("crates/image/stdin"), &b)?;
+    fs::write(at("crates/image/stdout"), written_of(Call::Judge, &b))?;
     let e = encode(&trace_e());
     fs::write(at("crates/replay/stdin"), &e)?;
     fs::write(at("crates/replay/stdout"), replay_of(&e))?;

@@ -148,18 +148,6 @@ pub fn compare(call: Call, name: &str, file: &[u8], outcome: &Outcome, length: u
     due_code as u8
 }
 
-/// Every length of the buffer that is tried with a file: none, half of what is
-/// needed, each from 8 bytes too few to 8 more than enough, and a long one.
-pub fn lengths(call: Call, outcome: &Outcome) -> Vec<usize> {
-    let mut lengths = vec![call.long(), 0];
-    if let Some(written) = call.written(outcome) {
-        let needed = written.len();
-        lengths.push(needed / 2);
-        lengths.extend(needed - 8..=needed + 8);
-    }
-    lengths
-}
-
 /// Answers of the model in the types for callers in Rust.
 fn told_answer(answer: &Answer) -> consistency::Answer {
     match *answer {

@@ -80,6 +80,35 @@ impl Call {
         }
     }
 
+    /// The length of a buffer that was just long enough before request E8, and is
+    /// no longer: that of an image without views.
+    pub fn former_len(self, outcome: &Outcome) -> Option<usize> {
+        match self {
+            Call::Judge | Call::Port => {
+                let image = self.written(outcome)?;
+                let former = image::former_len(image);
+                (former < image.len()).then_some(former)
+            }
+            Call::Replay | Call::Short | Call::Long => None,
+        }
+    }
+
+    /// Every length of the buffer that is tried with a file: none, half of what
+    /// is needed, each from 8 bytes too few to 8 more than enough, those around
+    /// what was enough before, and a long one.
+    pub fn lengths(self, outcome: &Outcome) -> Vec<usize> {
+        let mut lengths = vec![self.long(), 0];
+        if let Some(written) = self.written(outcome) {
+            let needed = written.len();
+            lengths.push(needed / 2);
+            lengths.extend(needed - 8..=needed + 8);
+        }
+        if let Some(former) = self.former_len(outcome) {
+            lengths.extend(former - 1..=former + 1);
+        }
+        lengths
+    }
+
     /// The words of its answer for a file that comes to this, the buffer left
     /// as the call leaves it.
     pub fn words(self, outcome: &Outcome, buffer: &mut [u8]) -> Vec<u64> {

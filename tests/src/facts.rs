@@ -2,8 +2,10 @@
 //! as functions to test with. Each answers what it found false.
 
 mod editions;
+mod views;
 
 pub use editions::editions_hold;
+pub use views::stored_views_hold;
 
 use crate::levels::place_of;
 use crate::relations::{
@@ -121,7 +123,8 @@ fn targets(links: &Relation, from: CommitNumber) -> Vec<CommitNumber> {
 }
 
 /// If SER accepts there is a replay, which is taken, gives the same store and
-/// image, passes all ten levels, and is its own replay; if not there is none.
+/// image, those of the views too, passes all ten levels, and is its own replay;
+/// if not there is none.
 pub fn replay_holds(taken: &Taken) -> Result<(), String> {
     if taken.replay.is_ok() != accepts(&taken.report, "SER") {
         return Err("a replay where SER refuses, or none where it accepts".to_string());
@@ -169,10 +172,11 @@ pub fn numbers_rise(store: &Store) -> Result<(), String> {
 /// No two entries of the log in an image have equal client and number.
 pub fn entries_differ(image: &[u8]) -> Result<(), String> {
     let commits = usize::from(image[5]);
-    let entries: Vec<&[u8]> = image[8..].chunks(8).take(commits).collect();
+    let length = 8 + 8 * usize::from(image[4]);
+    let entries: Vec<&[u8]> = image[8..].chunks(length).take(commits).collect();
     let different: BTreeSet<(u8, &[u8])> = entries
         .iter()
-        .map(|entry| (entry[0], &entry[4..]))
+        .map(|entry| (entry[0], &entry[4..8]))
         .collect();
     if different.len() != entries.len() {
         return Err("two entries of the log are alike".to_string());

@@ -2,6 +2,7 @@
 //! something was never met.
 
 mod editions;
+mod views;
 
 use crate::facts;
 use crate::generate::{case, record_places, Case, FORMER_KEYS, KINDS};
@@ -41,6 +42,10 @@ pub struct Met {
     longest_file: usize,
     longest_written: BTreeMap<Call, usize>,
     editions: editions::Editions,
+    views: views::Views,
+    /// Files with an image that was shorter before request E8: they are given a
+    /// buffer of that length.
+    lengthened: usize,
 }
 
 impl Met {
@@ -66,6 +71,7 @@ impl Met {
                 let longest = met.longest_written.entry(call).or_default();
                 *longest = written.max(*longest);
             }
+            met.lengthened += usize::from(Call::Judge.former_len(&outcome).is_some());
             for code in codes(seed, &case, &outcome) {
                 *met.codes.entry(code).or_default() += 1;
             }
@@ -108,8 +114,9 @@ impl Met {
             }
         }
         *self.combinations.entry(refusing(verdicts)).or_default() += 1;
+        let (_, run) = facts::taken(file).expect("it is taken");
+        self.views.taken(&run);
         if verdicts[place_of("RYW")] != Verdict::Accepted {
-            let (_, run) = facts::taken(file).expect("it is taken");
             for way in ways(&run) {
                 *self.own_writes.entry(way).or_default() += 1;
             }
@@ -180,6 +187,8 @@ impl Met {
             *longest = length.max(*longest);
         }
         self.editions.add(other.editions);
+        self.views.add(other.views);
+        self.lengthened += other.lengthened;
     }
 
     pub fn print(&self) {
@@ -230,6 +239,8 @@ impl Met {
             println!("longest that {} writes: {length}", call.name());
         }
         self.editions.print();
+        self.views.print();
+        println!("images that were shorter before E8: {}", self.lengthened);
     }
 
     /// How many different records, keys and versions code 16 names.
@@ -288,6 +299,8 @@ impl Met {
             assert_eq!(self.longest_written[&call], call.longest(), "{call:?}");
         }
         self.editions.lacks_nothing();
+        self.views.lacks_nothing();
+        assert!(self.lengthened >= 10, "{}", self.lengthened);
     }
 
     /// Every number of keys that a trace may have is met, and the first that it

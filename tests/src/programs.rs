@@ -2,7 +2,7 @@
 
 use crate::files::at;
 use crate::text::{refused, report};
-use crate::{answer, replayed, written_in, Call, Edition, Outcome, Replay};
+use crate::{answer, Call, Outcome, Refusal, Taken};
 use std::io::{ErrorKind, Write};
 use std::path::PathBuf;
 use std::process::{Command, Output, Stdio};
@@ -11,33 +11,74 @@ use std::thread;
 /// What a program has written to standard output and to standard error.
 pub type Said = (Vec<u8>, String);
 
-/// The program of this name for each call.
-pub fn program(call: Call) -> PathBuf {
-    let name = call.name();
-    let path = at("target/bin").join(name);
-    assert!(
-        path.exists(),
-        "there is no target/bin/{name}: `rt check {name}` builds it"
-    );
-    path
+/// Each reads a trace file on standard input.
+#[derive(Clone, Copy, PartialEq, Eq, Debug)]
+pub enum Program {
+    /// Prints the report or writes a file, by this call.
+    Of(Call),
+    /// Writes the image, by the call that judges.
+    Image,
 }
 
-/// What the program of a call has to say of a file that comes to this: `judge`
-/// and `port` print a report, the others write a file or tell a refusal.
-pub fn due(call: Call, outcome: &Outcome) -> Said {
-    let mut buffer = vec![0; call.longest()];
-    let written = match call {
-        Call::Judge | Call::Port => {
-            let text = report(&answer(outcome, &mut buffer));
-            return (text.into_bytes(), String::new());
+impl Program {
+    pub const ALL: [Program; 6] = [
+        Program::Of(Call::Judge),
+        Program::Of(Call::Replay),
+        Program::Of(Call::Short),
+        Program::Of(Call::Long),
+        Program::Of(Call::Port),
+        Program::Image,
+    ];
+
+    /// Those that print a report, a refusal too, on standard output; the others
+    /// write a file there, or tell a refusal on standard error.
+    pub const REPORTING: [Program; 2] = [Program::Of(Call::Judge), Program::Of(Call::Port)];
+
+    pub fn name(self) -> &'static str {
+        match self {
+            Program::Of(call) => call.name(),
+            Program::Image => "image",
         }
-        Call::Replay => replayed(outcome, &mut buffer),
-        Call::Short => written_in(Edition::Short, outcome, &mut buffer),
-        Call::Long => written_in(Edition::Long, outcome, &mut buffer),
-    };
-    match written {
-        Replay::Refused(refusal) => (Vec::new(), refused(&refusal)),
-        Replay::Written(length) => (buffer[..length].to_vec(), String::new()),
+    }
+
+    /// Where it was built.
+    pub fn path(self) -> PathBuf {
+        let name = self.name();
+        let path = at("target/bin").join(name);
+        assert!(
+            path.exists(),
+            "there is no target/bin/{name}: `rt check {name}` builds it"
+        );
+        path
+    }
+
+    /// What it has to say of a file that comes to this.
+    pub fn due(self, outcome: &Outcome) -> Said {
+        match self {
+            Program::Of(Call::Judge | Call::Port) => reported(outcome),
+            Program::Of(Call::Replay) => written(outcome, |taken| &taken.replay),
+            Program::Of(Call::Short) => written(outcome, |taken| &taken.short),
+            Program::Of(Call::Long) => written(outcome, |taken| &taken.long),
+            Program::Image => match outcome {
+                Ok(taken) => (taken.image.clone(), String::new()),
+                Err(refusal) => (Vec::new(), refused(refusal)),
+            },
+        }
+    }
+}
+
+fn reported(outcome: &Outcome) -> Said {
+    let mut image = vec![0; Call::Judge.longest()];
+    let text = report(&answer(outcome, &mut image));
+    (text.into_bytes(), String::new())
+}
+
+/// A file that is written, or the refusal.
+fn written(outcome: &Outcome, file: fn(&Taken) -> &Result<Vec<u8>, Refusal>) -> Said {
+    let file = outcome.as_ref().map(file);
+    match file {
+        Ok(Ok(file)) => (file.clone(), String::new()),
+        Ok(Err(refusal)) | Err(refusal) => (Vec::new(), refused(refusal)),
     }
 }
 

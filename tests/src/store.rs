@@ -1,9 +1,10 @@
 //! Sections "Sizes of a rack" and "Store and views": the limits, that of the
-//! keys by request E2; the store with its versions; and what makes a set of
-//! versions a view of it.
+//! keys by request E2; the store with its versions, and by request E8 the view of
+//! each commit; and what makes a set of versions a view of it.
 
 use crate::trace::{Operation, OperationKind};
 use std::collections::BTreeSet;
+use std::rc::Rc;
 
 /// The number of a key, from 0.
 #[derive(Clone, Copy, PartialEq, Eq, PartialOrd, Ord, Debug)]
@@ -38,11 +39,14 @@ pub struct Author {
     pub session: u32,
 }
 
-/// Each key's list of versions, and the author of each commit so far.
+/// Each key's list of versions; the author of each commit so far, and "the view u
+/// that it was judged from", which does not change and is shared with the stores
+/// before.
 #[derive(Clone, PartialEq, Eq, Debug)]
 pub struct Store {
     pub lists: Vec<Vec<StoredVersion>>,
     pub authors: Vec<Author>,
+    pub views: Vec<Rc<View>>,
 }
 
 impl Store {
@@ -65,6 +69,7 @@ impl Store {
         Store {
             lists: vec![vec![first]; keys],
             authors: Vec::new(),
+            views: Vec::new(),
         }
     }
 
@@ -102,6 +107,11 @@ impl Store {
         self.authors[commit.0 - 1]
     }
 
+    /// The view that a commit was judged from.
+    pub fn view(&self, commit: CommitNumber) -> &View {
+        &self.views[commit.0 - 1]
+    }
+
     /// The versions that a transaction wrote.
     pub fn written_by(&self, writer: CommitNumber) -> View {
         let mut written = self.versions();
@@ -122,6 +132,29 @@ impl Store {
         appearing
     }
 
+    /// The reads and writes of a commit, told from the versions: by key, a read
+    /// before a write.
+    pub fn operations_of(&self, commit: CommitNumber) -> Vec<Operation> {
+        let mut operations = Vec::new();
+        for key in self.keys() {
+            let list = &self.lists[key.0];
+            let read = list
+                .iter()
+                .filter(|version| version.readers.contains(&commit));
+            let written = list.iter().filter(|version| version.writer == commit);
+            let of_kind = |kind| {
+                move |version: &StoredVersion| Operation {
+                    kind,
+                    key,
+                    value: version.value,
+                }
+            };
+            operations.extend(read.map(of_kind(OperationKind::Read)));
+            operations.extend(written.map(of_kind(OperationKind::Write)));
+        }
+        operations
+    }
+
     /// The session numbers of a client in the trace so far, those of commits
     /// without operations included.
     pub fn sessions_of(&self, client: usize) -> BTreeSet<u32> {
@@ -129,12 +162,13 @@ impl Store {
         own.map(|author| author.session).collect()
     }
 
-    /// The store after one more commit, made from the view `u`: reads add the
-    /// commit to the readers of the newest version that `u` holds, writes
-    /// append. The read positions are those before the commit.
+    /// The store after one more commit, made from the view `u`, which is kept:
+    /// reads add the commit to the readers of the newest version that `u` holds,
+    /// writes append. The read positions are those before the commit.
     pub fn with_commit(&self, author: Author, operations: &[Operation], u: &View) -> Store {
         let mut next = self.clone();
         next.authors.push(author);
+        next.views.push(Rc::new(u.clone()));
         let commit = CommitNumber(next.authors.len());
         for operation in operations {
             let list = &mut next.lists[operation.key.0];

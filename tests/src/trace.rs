@@ -129,7 +129,7 @@ pub const fn commit_len(operations: usize, keys: usize) -> usize {
 }
 
 /// One mask for each key.
-fn masks_bytes(view: &View, keys: usize) -> Vec<u8> {
+pub fn masks_bytes(view: &View, keys: usize) -> Vec<u8> {
     let masks = masks(view).into_iter().take(keys);
     masks.flat_map(u64::to_le_bytes).collect()
 }

@@ -55,28 +55,52 @@ fn image_of_a() {
 fn image_of_b() {
     let file = encode(&trace_b());
     assert_eq!(file.len(), 80);
-    let mut image = pattern(77);
+    let mut image = pattern(93);
     let Answer::Judged(judged) = judge(&file, &mut image) else {
         panic!()
     };
     assert_eq!(
         (judged.records, judged.commits, judged.image_len),
-        (2, 2, 76)
+        (2, 2, 92)
     );
-    let mut expected = vec![76, 0, 0, 0, 1, 2, 0, 0];
-    expected.extend([0, 0, 0, 0, 0, 0, 0, 0]); // client 0, number 0
-    expected.extend([1, 0, 0, 0, 0, 0, 0, 0]); // client 1, number 0
+    let mut expected = vec![92, 0, 0, 0, 1, 2, 0, 0];
+    expected.extend([0, 0, 0, 0, 0, 0, 0, 0]); // client 0, number 0,
+    expected.extend([1, 0, 0, 0, 0, 0, 0, 0]); // from {0}
+    expected.extend([1, 0, 0, 0, 0, 0, 0, 0]); // client 1, number 0,
+    expected.extend([1, 0, 0, 0, 0, 0, 0, 0]); // from {0}
     expected.extend([3, 0, 0, 0]);
     expected.extend([0, 0, 0, 0, 0, 0, 0, 0, 6, 0, 0, 0, 0, 0, 0, 0]); // read by 1 and 2
     expected.extend([1, 0, 0, 0, 1, 0, 0, 0, 0, 0, 0, 0, 0, 0, 0, 0]);
     expected.extend([1, 0, 0, 0, 2, 0, 0, 0, 0, 0, 0, 0, 0, 0, 0, 0]);
-    assert_eq!(image[..76], expected);
-    assert!(untouched(&image, 76));
+    assert_eq!(image[..92], expected);
+    assert!(untouched(&image, 92));
+}
+
+/// A commit keeps the view that it was judged from, whatever its client sees
+/// before or after.
+#[test]
+fn views_in_the_image_of_e() {
+    let taken = outcome(&encode(&trace_e())).expect("it is taken");
+    let [first, second] = [8 + 8, 8 + 16 + 8].map(|place| taken.image[place]);
+    assert_eq!([first, second], [0b1, 0b11]);
+}
+
+/// "Image lengths in 01 change: trace A stays 28, trace B becomes 92."
+#[test]
+fn lengths_of_the_images() {
+    let mut lengths = String::new();
+    for example in all() {
+        if let Ok(taken) = outcome(&example.bytes) {
+            lengths += &format!("{} {}, ", example.name, taken.image.len());
+        }
+    }
+    let due = "A 28, B 92, C 176, D 128, E 76, F 152, G 152, K, 63 commits 2044, L 76, ";
+    assert_eq!(lengths, due);
 }
 
 #[test]
 fn report_of_b() {
-    let mut image = [0; 76];
+    let mut image = [0; 92];
     let answer = judge(&encode(&trace_b()), &mut image);
     let expected = "\
 records 2 commits 2
@@ -103,7 +127,7 @@ fn report_of_a_refusal() {
 #[test]
 fn short_image_buffer() {
     let file = encode(&trace_b());
-    for length in 0..76 {
+    for length in 0..92 {
         let mut image = pattern(length);
         let Answer::Refused(refusal) = judge(&file, &mut image) else {
             panic!()
@@ -209,12 +233,12 @@ fn replay_of_e() {
     }
 }
 
-/// The lengths that request E2 gives.
+/// The lengths that requests E8 and E2 give.
 #[test]
 fn the_longest_image_and_the_longest_replay() {
     let file = encode(&largest_serial(&mut Random::seeded(1)).trace);
-    let length = 8 + 8 * 63 + 32 * (4 + 16 * 64);
-    assert_eq!([length, image::LONGEST], [33_408; 2]);
+    let length = 8 + (8 + 8 * 32) * 63 + 32 * (4 + 16 * 64);
+    assert_eq!([length, image::LONGEST], [49_536; 2]);
     let mut buffer = pattern(LONG);
     let Answer::Judged(judged) = judge(&file, &mut buffer) else {
         panic!()

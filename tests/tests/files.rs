@@ -59,6 +59,8 @@ fn what_the_programs_read_and_print() {
         assert_eq!(stdin, b);
         assert_eq!(stdout, report_of(&b).as_bytes());
     }
+    assert_eq!(kept("crates/image/stdin"), b);
+    assert_eq!(kept("crates/image/stdout"), written_of(Call::Judge, &b));
     let e = encode(&trace_e());
     assert_eq!(kept("crates/replay/stdin"), e);
     assert_eq!(kept("crates/replay/stdout"), replay_of(&e));
@@ -96,6 +98,11 @@ fn bytes_below(head: &str) -> Vec<u8> {
 fn the_examples_of_the_formats() {
     let b = encode(&trace_b());
     assert_eq!(bytes_below("\n### Example: a lost update\n"), b);
+    let image = written_of(Call::Judge, &b);
+    assert_eq!(
+        bytes_below("\n### Example: the image of a lost update\n"),
+        image
+    );
     let e = outcome(&encode(&trace_e()));
     let replay = Call::Replay.written(&e).expect("SER accepts");
     assert_eq!(bytes_below("\n### Example: a view that was lost\n"), replay);

@@ -4,7 +4,7 @@
 use model::buffer::{pattern, untouched};
 use model::facts::{
     accepts, demand_3_holds, entries_differ, has_ring_without_adjacent_rw,
-    has_ring_without_adjacent_rw_by_closure, numbers_rise, taken,
+    has_ring_without_adjacent_rw_by_closure, numbers_rise, stored_views_hold, taken,
 };
 use model::generate::{file, taken_case, Case, Expected};
 use model::levels::missing;
@@ -134,8 +134,9 @@ fn check_expected(seed: u64, case: &Case, outcome: &Outcome) {
     }
 }
 
-/// Demand 3 on a file that is taken, and what rule 1 comes to. Answers whether there is a ring without
-/// two RW links side by side, and whether there is a replay.
+/// Demand 3 on a file that is taken, what rule 1 comes to, and what holds of the
+/// views in its image. Answers whether there is a ring without two RW links side
+/// by side, and whether there is a replay.
 fn check_facts(seed: u64, outcome: &Outcome) -> (bool, bool) {
     let Ok(taken) = outcome else {
         return (false, false);
@@ -143,7 +144,11 @@ fn check_facts(seed: u64, outcome: &Outcome) -> (bool, bool) {
     if let Err(fact) = demand_3_holds(taken) {
         panic!("seed {seed}: {fact}");
     }
-    for fact in [numbers_rise(&taken.store), entries_differ(&taken.image)] {
+    for fact in [
+        numbers_rise(&taken.store),
+        entries_differ(&taken.image),
+        stored_views_hold(&taken.image, &taken.report),
+    ] {
         if let Err(fact) = fact {
             panic!("seed {seed}: {fact}");
         }
@@ -186,12 +191,14 @@ fn buffers(seed: u64, call: Call, outcome: &Outcome) -> Vec<(usize, u8)> {
         Call::Replay | Call::Short | Call::Long => 17,
     };
     let needed = call.written(outcome).expect("it is written").len();
-    vec![
+    let mut buffers = vec![
         (Random::seeded(seed).below(needed), short),
         (needed - 1, short),
         (needed, 0),
         (call.long(), 0),
-    ]
+    ];
+    buffers.extend(call.former_len(outcome).map(|former| (former, short)));
+    buffers
 }
 
 /// The code that a call has for a file before it looks at the buffer.

@@ -1,13 +1,13 @@
 //! The programs, as `rt check` builds them: what each has to say of the bytes on
 //! its standard input is the model's. `judge` and `port` print the report;
-//! `replay`, `short` and `long` write a file, or tell the refusal on standard
-//! error and write nothing.
+//! `replay`, `short`, `long` and `image` write a file, or tell the refusal on
+//! standard error and write nothing.
 
 use model::example_traces::{trace_b, trace_e};
 use model::files::files;
 use model::generate::{case, exactly_full, growing_case, largest_serial, GROWING};
 use model::met::{possible_combinations, refusing};
-use model::programs::{due, program, run, said, Said};
+use model::programs::{run, said, Program, Said};
 use model::random::Random;
 use model::trace::{encode, with_true_length};
 use model::{outcome, Call, Outcome, Refusal};
@@ -16,16 +16,22 @@ use std::process::Command;
 
 const WHOLE: usize = usize::MAX;
 
-/// What the program of a call says of an input that comes in pieces.
-fn says(call: Call, input: &[u8], at_a_time: usize) -> Said {
-    said(run(&mut Command::new(program(call)), input, at_a_time))
+const JUDGE: Program = Program::Of(Call::Judge);
+const REPLAY: Program = Program::Of(Call::Replay);
+const SHORT: Program = Program::Of(Call::Short);
+const LONG: Program = Program::Of(Call::Long);
+
+/// What a program says of an input that comes in pieces.
+fn says(program: Program, input: &[u8], at_a_time: usize) -> Said {
+    said(run(&mut Command::new(program.path()), input, at_a_time))
 }
 
 /// All programs on one file.
 fn check(name: &str, file: &[u8], outcome: &Outcome) {
-    for call in Call::ALL {
-        let due = due(call, outcome);
-        assert!(says(call, file, WHOLE) == due, "{}, {name}", call.name());
+    for program in Program::ALL {
+        let due = program.due(outcome);
+        let says = says(program, file, WHOLE);
+        assert!(says == due, "{}, {name}", program.name());
     }
 }
 
@@ -92,7 +98,7 @@ fn the_longest_input() {
     let full = encode(&exactly_full(&mut Random::seeded(1)).trace);
     assert_eq!(full.len(), 65_536);
     let full_outcome = outcome(&full);
-    let (report, _) = due(Call::Judge, &full_outcome);
+    let (report, _) = JUDGE.due(&full_outcome);
     assert!(report.starts_with(b"records 128 commits 63\n"));
     check("full", &full, &full_outcome);
     for more in [1, 2, 100, 65_536, 300_000] {
@@ -104,23 +110,27 @@ fn the_longest_input() {
     }
 }
 
-/// It goes from one program to the other, and all levels accept it.
+/// It goes from one program to the other, all levels accept it, and it has the
+/// image of the trace, which is the longest.
 #[test]
-fn the_longest_replay() {
+fn the_longest_replay_and_the_longest_image() {
     let file = encode(&largest_serial(&mut Random::seeded(1)).trace);
     let taken = outcome(&file);
     check("largest", &file, &taken);
-    let (replay, _) = says(Call::Replay, &file, WHOLE);
+    let image = says(Program::Image, &file, WHOLE);
+    assert_eq!(image.0.len(), Call::Judge.longest());
+    let (replay, _) = says(REPLAY, &file, WHOLE);
     assert_eq!(replay.len(), Call::Replay.longest());
-    let (report, _) = says(Call::Judge, &replay, WHOLE);
+    let (report, _) = says(JUDGE, &replay, WHOLE);
     let report = String::from_utf8(report).expect("text");
     assert!(report.starts_with("records 126 commits 63\n"));
     assert_eq!(report.matches(" accepted\n").count(), 10);
+    assert!(says(Program::Image, &replay, WHOLE) == image);
 }
 
 /// Files of which an edition is as long as a file may be, or longer. What is
 /// written goes from one program to the other: short of short is short, long of
-/// short is long, and the report is the same.
+/// short is long, and the report and the image are the same.
 #[test]
 fn growing_files() {
     let mut met = BTreeSet::new();
@@ -131,15 +141,17 @@ fn growing_files() {
             continue;
         }
         check(sort, &case.bytes, &outcome(&case.bytes));
-        let report = says(Call::Judge, &case.bytes, WHOLE);
-        for call in [Call::Short, Call::Long] {
-            let said = says(call, &case.bytes, WHOLE);
+        let report = says(JUDGE, &case.bytes, WHOLE);
+        let image = says(Program::Image, &case.bytes, WHOLE);
+        for program in [SHORT, LONG] {
+            let said = says(program, &case.bytes, WHOLE);
             if said.0.is_empty() {
                 assert_eq!(said.1, "refused 22 record 0 key 0 version 0\n", "{sort}");
                 continue;
             }
-            assert!(says(Call::Judge, &said.0, WHOLE) == report, "{sort}");
-            for other in [Call::Short, Call::Long] {
+            assert!(says(JUDGE, &said.0, WHOLE) == report, "{sort}");
+            assert!(says(Program::Image, &said.0, WHOLE) == image, "{sort}");
+            for other in [SHORT, LONG] {
                 let again = says(other, &said.0, WHOLE);
                 assert!(again == says(other, &case.bytes, WHOLE), "{sort}");
             }
@@ -154,8 +166,8 @@ fn input_in_pieces() {
     let full = encode(&exactly_full(&mut Random::seeded(2)).trace);
     for (file, at_a_time) in [(encode(&trace_e()), 1), (full, 1_000)] {
         let outcome = outcome(&file);
-        for call in Call::ALL {
-            assert!(says(call, &file, at_a_time) == due(call, &outcome));
+        for program in Program::ALL {
+            assert!(says(program, &file, at_a_time) == program.due(&outcome));
         }
     }
 }

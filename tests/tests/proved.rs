@@ -5,7 +5,7 @@ use consistency::{
     judge_words, replay, Conversion, Replay, JUDGE_WORDS, LONGEST_FILE, LONGEST_REPLAY,
     LONGEST_REPORT, NO_ROOM,
 };
-use model::beside::{compare, in_words, lengths};
+use model::beside::{compare, in_words};
 use model::buffer::{pattern, untouched, LONG};
 use model::files::files;
 use model::generate::{file, growing_case, largest_serial};
@@ -34,7 +34,7 @@ fn compare_from(first: u64) -> Met {
 
 /// A call on one file, with buffers of all lengths that are tried.
 fn compare_all(call: Call, name: &str, file: &[u8], outcome: &Outcome) -> Vec<(Call, u8)> {
-    let lengths = lengths(call, outcome).into_iter();
+    let lengths = call.lengths(outcome).into_iter();
     lengths
         .map(|length| (call, compare(call, name, file, outcome, length)))
         .collect()

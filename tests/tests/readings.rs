@@ -66,7 +66,7 @@ fn sixty_four_operations() {
     let held = [both; Store::MAX_KEYS];
     let wide = |operations: &[Operation]| file(32, 1, &[commit(0, 0, operations, &held)]);
     let (report, image) = taken(&wide(&operations));
-    assert_eq!(report.image_len, 8 + 8 + 32 * (4 + 2 * 16));
+    assert_eq!(report.image_len, 8 + 8 + 8 * 32 + 32 * (4 + 2 * 16));
     // Of the last key, version 0 is read by commit 1 and version 1 by none.
     let last = &image[image.len() - 32..];
     assert_eq!(last[8..16], [2, 0, 0, 0, 0, 0, 0, 0]);
@@ -302,13 +302,34 @@ fn a_read_of_a_key_also_written_sees_the_version_before() {
     let (_, image) = taken(&file(1, 1, &records));
     // Version 0 is read by commit 1, version 1 by none.
     assert_eq!(
-        image[20..36],
+        image[28..44],
         [0, 0, 0, 0, 0, 0, 0, 0, 2, 0, 0, 0, 0, 0, 0, 0]
     );
     assert_eq!(
-        image[36..52],
+        image[44..60],
         [7, 0, 0, 0, 1, 0, 0, 0, 0, 0, 0, 0, 0, 0, 0, 0]
     );
+}
+
+/// Request E8: "the view u that it was judged from". Commits without operations
+/// have one too; shifts and views after change no view that is kept.
+#[test]
+fn each_commit_keeps_the_view_before_it() {
+    let records = [
+        commit(0, 0, &[write(0, 1)], &[&[0, 1], &[0]]),
+        shift(1, &[&[0, 1], &[0]]),
+        commit(1, 0, &[], &[&[0, 1], &[0]]),
+        commit(1, 1, &[write(0, 2), read(1, 0)], &[&[0], &[0]]),
+        commit(1, 2, &[write(1, 3)], &[&[0], &[0, 1]]),
+        shift(1, &[&[0, 1, 2], &[0, 1]]),
+    ];
+    let (report, image) = taken(&file(2, 2, &records));
+    let masks = |commit: usize| [8, 16].map(|place| image[8 + 24 * commit + place]);
+    assert_eq!(report.commits, 4);
+    assert_eq!(masks(0), [0b001, 0b1]);
+    assert_eq!(masks(1), [0b011, 0b1]);
+    assert_eq!(masks(2), [0b011, 0b1]);
+    assert_eq!(masks(3), [0b001, 0b1]);
 }
 
 #[test]

@@ -4,7 +4,7 @@
 use model::example_traces::trace_e;
 use model::files::{at, files};
 use model::generate::{exactly_full, pieces};
-use model::programs::{due, program, said, Said};
+use model::programs::{said, Program, Said};
 use model::random::Random;
 use model::trace::encode;
 use model::{outcome, Call};
@@ -19,8 +19,8 @@ use std::time::Duration;
 
 /// What is due for a whole input: the lost view, which SER accepts, so that
 /// each program has something to write.
-fn whole(call: Call) -> Said {
-    due(call, &outcome(&encode(&trace_e())))
+fn whole(program: Program) -> Said {
+    program.due(&outcome(&encode(&trace_e())))
 }
 
 /// The same as a file.
@@ -34,8 +34,8 @@ fn told(line: &str) -> Said {
 }
 
 /// The program, started with these streams.
-fn start(call: Call, input: impl Into<Stdio>, output: impl Into<Stdio>) -> Child {
-    Command::new(program(call))
+fn start(program: Program, input: impl Into<Stdio>, output: impl Into<Stdio>) -> Child {
+    Command::new(program.path())
         .stdin(input)
         .stdout(output)
         .stderr(Stdio::piped())
@@ -50,11 +50,11 @@ fn ended(child: Child) -> Said {
 
 /// A shell runs the program on the lost view, with its streams redirected:
 /// `line` says how.
-fn redirected(call: Call, line: &str) -> Said {
+fn redirected(program: Program, line: &str) -> Said {
     let output = Command::new("sh")
         .arg("-c")
         .arg(format!("exec \"$0\" {line}"))
-        .arg(program(call))
+        .arg(program.path())
         .current_dir(at("examples"))
         .stdin(lost_view())
         .output()
@@ -64,24 +64,24 @@ fn redirected(call: Call, line: &str) -> Said {
 
 #[test]
 fn a_whole_input() {
-    for call in Call::ALL {
-        assert_eq!(redirected(call, ""), whole(call));
+    for program in Program::ALL {
+        assert_eq!(redirected(program, ""), whole(program));
     }
 }
 
 #[test]
 fn closed_input() {
-    for call in Call::ALL {
+    for program in Program::ALL {
         let due = told("standard input: Bad file descriptor");
-        assert_eq!(redirected(call, "<&-"), due);
+        assert_eq!(redirected(program, "<&-"), due);
     }
 }
 
 #[test]
 fn a_directory_as_input() {
-    for call in Call::ALL {
+    for program in Program::ALL {
         let due = told("standard input: Is a directory");
-        assert_eq!(redirected(call, "< /"), due);
+        assert_eq!(redirected(program, "< /"), due);
     }
 }
 
@@ -90,10 +90,12 @@ fn a_directory_as_input() {
 fn an_empty_input() {
     let line = "refused 1 record 0 key 0 version 0";
     let printed = (format!("{line}\n").into_bytes(), String::new());
-    assert_eq!(redirected(Call::Judge, "< /dev/null"), printed);
-    assert_eq!(redirected(Call::Port, "< /dev/null"), printed);
-    for call in [Call::Replay, Call::Short, Call::Long] {
-        assert_eq!(redirected(call, "< /dev/null"), told(line));
+    for program in Program::ALL {
+        let due = match Program::REPORTING.contains(&program) {
+            true => printed.clone(),
+            false => told(line),
+        };
+        assert_eq!(redirected(program, "< /dev/null"), due);
     }
 }
 
@@ -103,36 +105,37 @@ fn an_empty_input() {
 fn a_refusal_beside_closed_streams() {
     let no_replay = "refused 16 record 2 key 0 version 1";
     let wrong_read = "refused 13 record 1 key 0 version 0";
-    for (call, file, line) in [
-        (Call::Replay, "B-lost-update", no_replay),
-        (Call::Short, "I-wrong-read", wrong_read),
-        (Call::Long, "I-wrong-read", wrong_read),
+    for (program, file, line) in [
+        (Program::Of(Call::Replay), "B-lost-update", no_replay),
+        (Program::Of(Call::Short), "I-wrong-read", wrong_read),
+        (Program::Of(Call::Long), "I-wrong-read", wrong_read),
+        (Program::Image, "I-wrong-read", wrong_read),
     ] {
         let nothing = (Vec::new(), String::new());
         for (streams, due) in [("", told(line)), (">&-", told(line)), ("2>&-", nothing)] {
             let line = format!("< {file} {streams}");
-            assert_eq!(redirected(call, &line), due, "{line}");
+            assert_eq!(redirected(program, &line), due, "{line}");
         }
     }
 }
 
 #[test]
 fn a_full_device() {
-    for call in Call::ALL {
+    for program in Program::ALL {
         let full = OpenOptions::new()
             .write(true)
             .open("/dev/full")
             .expect("a device that is full");
         let due = told("standard output: No space left on device");
-        assert_eq!(ended(start(call, lost_view(), full)), due);
+        assert_eq!(ended(start(program, lost_view(), full)), due);
     }
 }
 
 #[test]
 fn closed_output() {
-    for call in Call::ALL {
+    for program in Program::ALL {
         let due = told("standard output: Bad file descriptor");
-        assert_eq!(redirected(call, ">&-"), due);
+        assert_eq!(redirected(program, ">&-"), due);
     }
 }
 
@@ -140,12 +143,12 @@ fn closed_output() {
 /// program can tell.
 #[test]
 fn a_cut_output() {
-    for call in Call::ALL {
+    for program in Program::ALL {
         let cut = PathBuf::from(env!("CARGO_TARGET_TMPDIR")).join("cut");
         let output = Command::new("sh")
             .arg("-c")
             .arg("trap '' XFSZ; ulimit -f 0; exec \"$0\" > \"$1\"")
-            .arg(program(call))
+            .arg(program.path())
             .arg(&cut)
             .stdin(lost_view())
             .output()
@@ -166,8 +169,8 @@ fn an_output_that_takes_nothing() {
         .arg(at("tests/tests/streams/takes_nothing.c"))
         .status();
     assert!(compiler.expect("there is gcc").success());
-    for call in Call::ALL {
-        let output = Command::new(program(call))
+    for program in Program::ALL {
+        let output = Command::new(program.path())
             .env("LD_PRELOAD", &write)
             .stdin(lost_view())
             .output()
@@ -186,10 +189,10 @@ fn late(mut to: impl Write) {
 
 #[test]
 fn a_late_writer() {
-    for call in Call::ALL {
-        let mut child = start(call, Stdio::piped(), Stdio::piped());
+    for program in Program::ALL {
+        let mut child = start(program, Stdio::piped(), Stdio::piped());
         late(child.stdin.take().expect("it is piped"));
-        assert_eq!(ended(child), whole(call));
+        assert_eq!(ended(child), whole(program));
     }
 }
 
@@ -203,17 +206,17 @@ fn pieces_with_pauses() {
     long.push(0);
     let inputs = files().into_iter().map(|(_, example)| example.bytes);
     for (seed, input) in inputs.chain([full, long]).enumerate() {
-        let due = due(Call::Judge, &outcome(&input));
-        for call in [Call::Judge, Call::Port] {
+        let due = Program::Of(Call::Judge).due(&outcome(&input));
+        for program in Program::REPORTING {
             let random = &mut Random::seeded(seed as u64);
-            let mut child = start(call, Stdio::piped(), Stdio::piped());
+            let mut child = start(program, Stdio::piped(), Stdio::piped());
             let mut to = child.stdin.take().expect("it is piped");
             for piece in pieces(random, &input, 1 + input.len() / 4) {
                 to.write_all(piece).expect("the input is written");
                 sleep(Duration::from_millis(5));
             }
             drop(to);
-            assert_eq!(ended(child), due, "input {seed}, {}", call.name());
+            assert_eq!(ended(child), due, "input {seed}, {}", program.name());
         }
     }
 }
@@ -222,13 +225,13 @@ fn pieces_with_pauses() {
 /// there is something.
 #[test]
 fn an_input_that_is_not_ready() {
-    for call in Call::ALL {
+    for program in Program::ALL {
         let (ours, theirs) = UnixStream::pair().expect("two ends");
         theirs
             .set_nonblocking(true)
             .expect("an end that does not wait");
-        let child = start(call, OwnedFd::from(theirs), Stdio::piped());
+        let child = start(program, OwnedFd::from(theirs), Stdio::piped());
         late(ours);
-        assert_eq!(ended(child), whole(call));
+        assert_eq!(ended(child), whole(program));
     }
 }

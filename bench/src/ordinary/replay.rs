@@ -1,9 +1,9 @@
 //! The replay of a trace: the trace is taken as it is for the judge, and its
 //! commits are written out with the views that the store has kept.
 
-use super::{Judge, Workspace, NARROW};
+use super::{put_masks, Judge, Workspace, NARROW};
 use crate::answer::{Refusal, Replay, Verdict};
-use crate::form::{self, Header, Reader, Record, Row};
+use crate::form::{self, Header, Reader, Record};
 
 /// The bytes of a shift and of a commit without their operations and masks.
 const SHIFT: usize = 6;
@@ -108,12 +108,5 @@ impl<const WIDTH: usize> Workspace<WIDTH> {
             put_masks(masks, after);
             rest = next;
         }
-    }
-}
-
-/// The masks of a row, as many as there is room for.
-fn put_masks<const WIDTH: usize>(bytes: &mut [u8], row: &Row<WIDTH>) {
-    for (bytes, mask) in bytes.chunks_exact_mut(8).zip(row) {
-        bytes.copy_from_slice(&mask.to_le_bytes());
     }
 }

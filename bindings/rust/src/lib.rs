@@ -39,4 +39,4 @@ pub use session::{
 pub const LONGEST_FILE: usize = 65_536;
 
 /// No image is longer; a buffer of this length is never too short.
-pub const LONGEST_IMAGE: usize = 33_408;
+pub const LONGEST_IMAGE: usize = 49_536;
