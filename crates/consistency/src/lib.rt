@@ -1,5 +1,5 @@
-// Every call for callers in Rust and C, each with all that is promised of it. A call is lent a trace file, the places that it writes to, and words for its
-// answer; it answers a code, and nothing is asked of its caller. Which word is what stands in crates/words/specs/Layout.antt: a refusal has the same
+// Every call for callers in Rust and C, each with all that is promised of it. A call is lent a trace file or an image, the places that it writes to, and words
+// for its answer; it answers a code, and nothing is asked of its caller. Which word is what stands in crates/words/specs/Layout.antt: a refusal has the same
 // words for all calls. What the answer is stands in the definitions that the contracts name.
 mod sessions; // sessions.rt: the close of a session, with the record by value
 
@@ -18,12 +18,14 @@ ghost use Rattle.answer.specs.Converted.{convertAnswer, convertAfter, WrittenSa
 ghost use Rattle.trace.specs.Edition as Editions;
 ghost use Rattle.judging.specs.Answers.{toldAnswer};
 ghost use Rattle.converting.specs.Answers.{editionOf};
+ghost use Rattle.arranging.specs.Answer.{shownAnswer, shownAfter};
+ghost use Rattle.arranging.specs.Claim.{ImageClaim};
 ghost use Rattle.pieces.specs.Piece.{opened, pieceCode, counted, keptAfter};
 ghost use Rattle.pieces.specs.Close.{closeAnswer, closeImage, RefusalKeepsImage, shut};
 ghost use Rattle.pieces.specs.Has.{Has, JudgesJoined};
 ghost use Rattle.report.specs.Report.{reportText};
 ghost use Rattle.report.specs.Longest.{longestReport};
-ghost use Rattle.words.specs.Layout.{noRoom, refusalLength, replayWords, answerLength, answerWords, codeOf};
+ghost use Rattle.words.specs.Layout.{noRoom, refusalLength, replayWords, shownCode, shownWords, answerLength, answerWords, codeOf};
 
 // Judges a trace file: ten verdicts, and the image of its store at the start of `image`; or a refusal with codes 1 to 15, and `image` as it came.
 // Where there is no room for the words nothing is judged. No file has an image longer than `maxImage` bytes: with such a buffer there is no code 15. Read back, the
@@ -133,6 +135,31 @@ pub extern "C" fn long_file(file: &[u8], buffer: &mut [u8], out: &mut [u64]) -> 
         ⌝ }
 {
     convert_file(file, buffer, out, Edition::Long)
+}
+
+// Judges a bare image (02, E9): an order of its commits, each made from a full view, that gives what the image says, the lowest-numbered ready commit first
+// each time; or with code 19 a ring of links, which is given exactly where no order exists. Either goes to the start of `shown`, one byte a commit, and
+// its length is answered. Or a refusal with code 20, where the image is misshapen; 17, where `shown` has under 63 bytes; and `shown` as it came. The image
+// that is written for a trace is never misshapen, and has an order where serialisability accepts the trace. Where there is no room for the words of a
+// refusal nothing is done.
+#[no_mangle]
+pub extern "C" fn judge_image(image: &[u8], shown: &mut [u8], out: &mut [u64]) -> u64
+    ensures room { λ r. ⌜
+        (length (now (out .entry)) < refusalLength
+        → (r ≡ noRoom) × (now (out .exit) ≡ now (out .entry)) × (now (shown .exit) ≡ now (shown .entry)))
+        ⌝ }
+    ensures answer { λ r. ⌜
+        (refusalLength ≤ length (now (out .entry))
+        → (r ≡ shownCode (shownAnswer (now (image .entry)) (length (now (shown .entry)))))
+        × (now (out .exit) ≡ putAt (now (out .entry)) 0 (shownWords (shownAnswer (now (image .entry)) (length (now (shown .entry))))))
+        × (now (shown .exit) ≡ shownAfter (now (image .entry)) (now (shown .entry))))
+        ⌝ }
+    ensures holds { λ _. ⌜ ImageClaim (now (image .entry)) ⌝ }
+{
+    if out.len() < words::REFUSAL {
+        return words::NO_ROOM;
+    }
+    words::put_shown(out, arranging::judge_image(image, shown))
 }
 
 // The report on a trace file as text, at the start of `text`, and its length; `image` is left as `judge_file` leaves it. Where `text` is shorter than the

@@ -1,20 +1,18 @@
--- How long the image is: by the judge's full masks, and at most. Assumes nothing.
+-- How long the image is, by the judge's full masks. Assumes nothing.
 use Prim.Native.Nat.{ℕ, zero, suc, _+_, _*_, _≤_, _<_}
 use mathlib.Core.Path.{_≡_, refl, ap, _∙_, subst}
 use mathlib.Core.Logic.{⊎-elim}
 use mathlib.Core.List.{List}
 use native.Mathlib.Omega.{arith}
-use native.Mathlib.Nat.{le-of-suc-le-suc, eq-or-lt-of-le, mul-suc, mul-le-mul, mul-le-mul-left}
+use native.Mathlib.Nat.{le-of-suc-le-suc, eq-or-lt-of-le, mul-suc, mul-le-mul-left}
 use native.Mathlib.Numerals.{add-one}
 use lib.Count.{ones, ones-ones}
 use lib.ListN.{length, getD, length-append}
 use Rattle.sets.specs.Set.{below, size}
 use Rattle.endian.specs.Endian.{pieces}
-use Rattle.store.specs.Limits.{maxKeys, maxCommits, perKey, maxImage}
 use Rattle.store.specs.Store.{Store, count}
 use Rattle.store.specs.Image.{keyBytes, image}
 use Rattle.store.specs.Reading.{commitSize}
-use Rattle.store.specs.Sound.{SoundStore}
 use Rattle.store.proofs.ImageSizes.{length-key, length-image}
 use Rattle.state.specs.Keeps.{KeepsKeys}
 use Rattle.imaging.specs.Parts.{keysSize, wholeSize}
@@ -60,18 +58,3 @@ commits-suc n i = ap (λ (j : ℕ). commitSize n * j) (add-one i) ∙ mul-suc (c
 -- a commit among the first `count` has its bytes within theirs
 pub commit-within : (n i count : ℕ) → i < count → commitSize n * i + commitSize n ≤ commitSize n * count
 commit-within n i count l = subst (λ (m : ℕ). m ≤ commitSize n * count) (mul-suc (commitSize n) i) (mul-le-mul-left (commitSize n) l)
-
--- ---- at most
-
--- so many commits of so many keys
-pub commits-most : (n count : ℕ) → n ≤ maxKeys → count ≤ maxCommits → commitSize n * count ≤ commitSize maxKeys * maxCommits
-commits-most n count few some = mul-le-mul (let h : commitSize n ≤ commitSize maxKeys = omega arith in h) some
-
-module _ (s : Store) (sound : SoundStore s) (commits : s .commits ≤ maxCommits) where
-  keys-most : (n : ℕ) → length (pieces n (keyBytes s)) ≤ (4 + 16 * perKey) * n
-  unfolding pieces
-  keys-most zero = omega arith
-  keys-most (suc n) = simp (length-append, length-key) (omega (arith, keys-most n, sound .few n))
-
-  pub length-most : s .keys ≤ maxKeys → length (image s) ≤ maxImage
-  length-most keys = omega (arith, length-image s, keys-most (s .keys), commits-most (s .keys) (s .commits) keys commits)

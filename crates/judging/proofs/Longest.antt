@@ -15,7 +15,7 @@ use Rattle.answer.proofs.Output.{answered-made}
 use Rattle.answer.proofs.Taken.{sound-final}
 use Rattle.answer.proofs.Demand3.{accepted-trace, taken-run}
 use Rattle.answer.proofs.Recorded.{image-says}
-use Rattle.imaging.proofs.Sizes.{length-most}
+use Rattle.store.proofs.ImageSizes.{length-most}
 use Rattle.judging.specs.Answers.{Judged, judgedOf, toldAnswer}
 
 pub image-fits : (bytes : List ℕ) → Bytes bytes → ImageFits bytes

@@ -1,13 +1,16 @@
--- How long the image of a store and its parts are. Assumes nothing.
-use Prim.Native.Nat.{ℕ, suc, _+_, _*_}
+-- How long the image of a store and its parts are, and can be. Assumes nothing.
+use Prim.Native.Nat.{ℕ, zero, suc, _+_, _*_, _≤_}
 use mathlib.Core.Path.{_≡_}
 use native.Mathlib.Omega.{arith}
+use native.Mathlib.Nat.{mul-le-mul}
 use lib.ListN.{length, length-append}
 use Rattle.endian.specs.Endian.{pieces}
 use Rattle.endian.proofs.Laws.{length-leBytes, length-pieces}
+use Rattle.store.specs.Limits.{maxKeys, maxCommits, perKey, maxImage}
 use Rattle.store.specs.Store.{Key, CommitNumber, Version, Store, count, version}
 use Rattle.store.specs.Image.{versionBytes, commitBytes, keyBytes, imageBody, image}
 use Rattle.store.specs.Reading.{commitSize}
+use Rattle.store.specs.Sound.{SoundStore}
 use Rattle.store.proofs.Masks.{length-viewBytes}
 
 pub length-version : (v : Version) → length (versionBytes v) ≡ 16
@@ -31,3 +34,18 @@ length-key s k = simp (length-append, length-leBytes, length-versions s k (count
 pub length-image : (s : Store) → length (image s) ≡ 8 + commitSize (s .keys) * s .commits + length (pieces (s .keys) (keyBytes s))
 unfolding image imageBody
 length-image s = simp (length-append, length-leBytes, length-commits s (s .commits)) (omega arith)
+
+-- ---- at most
+
+-- so many commits of so many keys
+pub commits-most : (n count : ℕ) → n ≤ maxKeys → count ≤ maxCommits → commitSize n * count ≤ commitSize maxKeys * maxCommits
+commits-most n count few some = mul-le-mul (let h : commitSize n ≤ commitSize maxKeys = omega arith in h) some
+
+module _ (s : Store) (sound : SoundStore s) (commits : s .commits ≤ maxCommits) where
+  keys-most : (n : ℕ) → length (pieces n (keyBytes s)) ≤ (4 + 16 * perKey) * n
+  unfolding pieces
+  keys-most zero = omega arith
+  keys-most (suc n) = simp (length-append, length-key) (omega (arith, keys-most n, sound .few n))
+
+  pub length-most : s .keys ≤ maxKeys → length (image s) ≤ maxImage
+  length-most keys = omega (arith, length-image s, keys-most (s .keys), commits-most (s .keys) (s .commits) keys commits)

@@ -61,10 +61,10 @@ module _ (s : Store) (fits : FitsImage s) where
   unfolding image
   from-keys = stands-behind 4 _ _ 4 refl (stands-whole (image s))
 
-  from-commits : Stands b 5 (leBytes 1 (s .commits) ++ (leBytes 2 0 ++ imageBody s))
+  pub from-commits : Stands b 5 (leBytes 1 (s .commits) ++ (leBytes 2 0 ++ imageBody s))
   from-commits = stands-behind 1 _ _ 5 refl from-keys
 
-  body : Stands b 8 (imageBody s)
+  pub body : Stands b 8 (imageBody s)
   body = stands-behind 2 _ _ 8 refl (stands-behind 1 _ _ 6 refl from-commits)
 
   pub keys-back : imageKeys b ≡ s .keys
@@ -80,7 +80,7 @@ module _ (s : Store) (fits : FitsImage s) where
       let before : suc i - 1 ≡ i = omega arith in
       ap₂ (λ (n : ℕ) (j : ℕ). 8 + commitSize n * j) keys-back before
 
-  commit-stands : (i : ℕ) → i < s .commits → Stands b (commitPlace b (suc i)) (commitBytes s (suc i))
+  pub commit-stands : (i : ℕ) → i < s .commits → Stands b (commitPlace b (suc i)) (commitBytes s (suc i))
   unfolding imageBody
   commit-stands i l =
       stands-at (sym (place-of i))
@@ -112,7 +112,7 @@ module _ (s : Store) (fits : FitsImage s) where
       go (yes h) = choose-yes (isCommit b t) (f t) none h ∙ entry-at t (is-commit t h)
       go (no n) = choose-no (isCommit b t) (f t) none (not-is (isCommit b t) same .1 n) ∙ sym (outside t (no-commit t n))
 
-  client-back : (i : ℕ) → i < s .commits → leAt b (commitPlace b (suc i)) 1 ≡ s .clientOf (suc i)
+  pub client-back : (i : ℕ) → i < s .commits → leAt b (commitPlace b (suc i)) 1 ≡ s .clientOf (suc i)
   unfolding commitBytes
   client-back i l = read-first 1 _ _ (omega (arith, fits .client (suc i))) (commit-stands i l)
 
@@ -137,16 +137,16 @@ module _ (s : Store) (fits : FitsImage s) where
   unfolding imageBody
   keys-stand = stands-at (ap (λ (n : ℕ). 8 + n) (length-commits s (s .commits))) (stands-second (pieces (s .commits) (λ i. commitBytes s (suc i))) _ body)
 
-  key-stands : (k : Key) → k < s .keys → Stands b (start + length (pieces k (keyBytes s))) (keyBytes s k)
+  pub key-stands : (k : Key) → k < s .keys → Stands b (start + length (pieces k (keyBytes s))) (keyBytes s k)
   key-stands k l =
       let (rest, e) = pieces-split (s .keys) k (keyBytes s) l in
       stands-first (keyBytes s k) rest (stands-second (pieces k (keyBytes s)) (keyBytes s k ++ rest) (stands-as e keys-stand))
 
-  count-back : (k : Key) (at : ℕ) → Stands b at (keyBytes s k) → leAt b at 4 ≡ count s k
+  pub count-back : (k : Key) (at : ℕ) → Stands b at (keyBytes s k) → leAt b at 4 ≡ count s k
   unfolding keyBytes
   count-back k at h = read-first 4 _ _ (fits .few-versions k) h
 
-  key-place : (k : Key) → k ≤ s .keys → keyPlace b k ≡ start + length (pieces k (keyBytes s))
+  pub key-place : (k : Key) → k ≤ s .keys → keyPlace b k ≡ start + length (pieces k (keyBytes s))
   unfolding keyPlace pieces
   key-place zero l = ap₂ (λ (n : ℕ) (m : ℕ). 8 + commitSize n * m) keys-back commits-back ∙ omega arith
   key-place (suc k) l =

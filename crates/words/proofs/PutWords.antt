@@ -9,7 +9,8 @@ use Rattle.endian.specs.Endian.{putAt}
 use Rattle.endian.proofs.Put.{put-next}
 use Rattle.trace.specs.Result.{Result}
 use Rattle.verdicts.specs.Told.{Told}
-use Rattle.words.specs.Layout.{answerLength, verdictWords, allVerdictWords, wordsOf, codeOf}
+use Rattle.placing.specs.declared.Shown.{Shown}
+use Rattle.words.specs.Layout.{answerLength, verdictWords, allVerdictWords, wordsOf, codeOf, shownCode, shownWords}
 
 -- a verdict has four
 four-words : (v : Option Told) → length (verdictWords v) ≡ 4
@@ -59,3 +60,8 @@ judged-put l a b c d ws room p q = put-next l 0 4 4 (a ∷ b ∷ c ∷ d ∷ [])
 pub told-words : {A : Type 0} (found : A → List ℕ) {t u : Result A} → u ≡ t → (l after : List ℕ) (r : ℕ) → r ≡ codeOf u → after ≡ putAt l 0 (wordsOf found u)
     → (r ≡ codeOf t) × (after ≡ putAt l 0 (wordsOf found t))
 told-words found e l after r p q = (p ∙ ap codeOf e, q ∙ ap (λ x. putAt l 0 (wordsOf found x)) e)
+
+-- the same of the answer for an image, whose codes are not those of a refusal alone
+pub told-shown : {t u : Result Shown} → u ≡ t → (l after : List ℕ) (r : ℕ) → r ≡ shownCode u → after ≡ putAt l 0 (shownWords u)
+    → (r ≡ shownCode t) × (after ≡ putAt l 0 (shownWords t))
+told-shown e l after r p q = (p ∙ ap shownCode e, q ∙ ap (λ x. putAt l 0 (shownWords x)) e)

@@ -8,6 +8,8 @@ use Rattle.trace.specs.Result.{Result, refused, taken}
 use Rattle.verdicts.specs.Verdicts.{levelCount}
 use Rattle.verdicts.specs.Told.{Told}
 use Rattle.judging.specs.Answers.{Judged}
+use Rattle.placing.specs.declared.Shown.{Shown}
+use Rattle.placing.specs.declared.Shown.the-variants.{Order, Ring}
 
 -- ---- what all calls have in common
 
@@ -36,6 +38,18 @@ wordsOf found (taken a) = 0 ∷ found a
 
 abbrev pub replayWords : Result ℕ → List ℕ
 replayWords r = wordsOf (λ n. n ∷ []) r
+
+-- ---- `judge_image`: "Code 0 shows such an order", "code 19 .. shows a ring", and "the answer gives how many" (02, E9)
+
+abbrev pub shownCode : Result Shown → ℕ
+shownCode (refused r) = r .code
+shownCode (taken (Order n)) = 0
+shownCode (taken (Ring n)) = 19
+
+abbrev pub shownWords : Result Shown → List ℕ
+shownWords (refused r) = refusalWords r
+shownWords (taken (Order n)) = 0 ∷ n ∷ []
+shownWords (taken (Ring n)) = 19 ∷ n ∷ []
 
 -- ---- `judge_file`
 

@@ -2,8 +2,10 @@
 // a caller's words and answers its code.
 mod judged; // judged.rt: the words of the ten verdicts
 
+use arranging::Arrangement;
 use converting::Conversion;
 use judging::Answer;
+use placing::Shown;
 use replaying::Replay;
 use state::Refusal;
 ghost use mathlib.Core.Path.{_≡_};
@@ -12,13 +14,17 @@ ghost use Prim.Native.Nat.{_≤_};
 ghost use lib.ListN.{length};
 ghost use Rattle.endian.specs.Endian.{putAt};
 ghost use Rattle.state.specs.Answers.{refusalOf};
+ghost use Rattle.arranging.specs.Answers.{arrangementOf};
 ghost use Rattle.converting.specs.Answers.{conversionOf};
 ghost use Rattle.judging.specs.Answers.{answerOf};
 ghost use Rattle.replaying.specs.Answers.{replayOf};
-ghost use Rattle.words.specs.Layout.{refusalLength, refusalWords, replayWords, answerLength, answerWords, codeOf};
+ghost use Rattle.words.specs.Layout.{refusalLength, refusalWords, replayWords, shownCode, shownWords, answerLength, answerWords, codeOf};
 
 // The code of a call that has no room for the words of its answer.
 pub const NO_ROOM: u64 = 255;
+
+// The code of a ring (02, E9), which is no refusal: it has words of its own.
+pub const RING: u64 = 19;
 
 // The words of a refusal, of whatever call.
 pub const REFUSAL: usize = 5;
@@ -64,6 +70,30 @@ pub fn put_conversion(out: &mut [u64], a: Conversion) -> u64
     match a {
         Conversion::Refused(refusal) => put_replay(out, Replay::Refused(refusal)),
         Conversion::Written(size) => put_replay(out, Replay::Written(size)),
+    }
+}
+
+// A code, and how many commits are shown with it.
+fn put_count(out: &mut [u64], code: u64, n: usize) -> u64
+    requires { ⌜ refusalLength ≤ length (now out) ⌝ }
+    ensures { λ c. ⌜ (c ≡ code) × (now (out .exit) ≡ putAt (now (out .entry)) 0 (code ∷ n ∷ [])) ⌝ }
+{
+    out[0] = code;
+    out[1] = n as u64;
+    code
+}
+
+// The answer of `arranging::judge_image`.
+pub fn put_shown(out: &mut [u64], a: Arrangement) -> u64
+    requires { ⌜ refusalLength ≤ length (now out) ⌝ }
+    ensures { λ c. ⌜ (c ≡ shownCode (arrangementOf a)) × (now (out .exit) ≡ putAt (now (out .entry)) 0 (shownWords (arrangementOf a))) ⌝ }
+{
+    match a {
+        Arrangement::Refused(refusal) => put_refusal(out, refusal),
+        Arrangement::Shown(shown) => match shown {
+            Shown::Order(n) => put_count(out, 0, n),
+            Shown::Ring(n) => put_count(out, RING, n),
+        },
     }
 }
 

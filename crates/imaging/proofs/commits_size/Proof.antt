@@ -2,7 +2,7 @@
 use mathlib.Core.Path.{refl}
 use native.Mathlib.Omega.{arith}
 use borrow.Author.Needs.{needs}
-use Rattle.imaging.proofs.Sizes.{commits-most}
+use Rattle.store.proofs.ImageSizes.{commits-most}
 use Rattle.imaging.proofs.commits_size.Statement.{statement}
 use Rattle.imaging.proofs.commits_size.Tie as tie
 

@@ -1,0 +1,17 @@
+pub mod Lists
+pub mod Placing
+pub mod Rings
+pub mod Shape
+pub mod Formed
+pub mod Operations
+pub mod Names
+pub mod Forward
+pub mod Run
+pub mod Ordered
+pub mod Serial
+pub mod Judge
+pub mod Taken
+pub mod Accepted
+pub mod Examples
+pub mod Places
+pub mod Trace

@@ -1,0 +1,9 @@
+pub mod Links
+pub mod Shape
+pub mod Order
+pub mod Placing
+pub mod Ring
+pub mod Judge
+pub mod Claim
+pub mod Examples
+pub mod Rows

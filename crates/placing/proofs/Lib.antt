@@ -1,0 +1,4 @@
+pub mod Ready
+pub mod Listing
+pub mod Way
+pub mod Whole

@@ -1,0 +1,12 @@
+pub mod Ones
+pub mod Answers
+pub mod Entries
+pub mod Versions
+pub mod Keys
+pub mod Says
+pub mod Shaped
+pub mod Rows
+pub mod Sessions
+pub mod Passing
+pub mod Linked
+pub mod Examples
