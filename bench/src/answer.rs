@@ -15,7 +15,15 @@ pub enum Replay {
     Written(u32),
 }
 
-/// A code, 1 to 18 or 22; record, key and version are 0 where not named.
+/// How many commits of an image are shown, in an order or in a ring; or a refusal.
+#[derive(Clone, Copy, PartialEq, Eq, Debug)]
+pub enum Bare {
+    Refused(Refusal),
+    Order(usize),
+    Ring(usize),
+}
+
+/// A code, 1 to 18, 20 or 22; record, key and version are 0 where not named.
 #[derive(Clone, Copy, PartialEq, Eq, Debug)]
 pub struct Refusal {
     pub code: u8,
@@ -78,6 +86,16 @@ impl From<Replay> for model::Replay {
         match answer {
             Replay::Refused(refusal) => model::Replay::Refused(refusal.into()),
             Replay::Written(length) => model::Replay::Written(length as usize),
+        }
+    }
+}
+
+impl From<Bare> for model::bare::Shown {
+    fn from(answer: Bare) -> model::bare::Shown {
+        match answer {
+            Bare::Refused(refusal) => model::bare::Shown::Refused(refusal.into()),
+            Bare::Order(commits) => model::bare::Shown::Order(commits),
+            Bare::Ring(commits) => model::bare::Shown::Ring(commits),
         }
     }
 }

@@ -2,9 +2,10 @@
 
 use crate::proved::proved;
 use crate::traces::Trace;
-use crate::{Answer, Judge, Refusal, Replay, Session};
-use model::store::Store;
-use model::words::{judge_words, replay_words, JUDGE as WORDS};
+use crate::{judge_image, Answer, Bare, Judge, Refusal, Replay, Session};
+use model::bare::{is_ring, links, order_or_ring, shaped, ROOM};
+use model::store::{CommitNumber, Store};
+use model::words::{judge_words, replay_words, shown_words, JUDGE as WORDS};
 use model::{image, replay, Call, Edition};
 
 pub trait Contender {
@@ -15,7 +16,14 @@ pub trait Contender {
 
     /// The words of the answer that is kept of a call, and zeros up to the most
     /// words.
-    fn words(&self, call: Call) -> Vec<u64>;
+    fn words(&self, call: Asked) -> Vec<u64>;
+}
+
+/// What is asked: a call on a trace file, or the one on an image.
+#[derive(Clone, Copy, PartialEq, Eq, Debug)]
+pub enum Asked {
+    Of(Call),
+    Image,
 }
 
 /// The ordinary judge, and then the proved one if it is linked in.
@@ -26,6 +34,7 @@ pub fn contenders() -> Vec<Box<dyn Contender>> {
         session: Session::open(),
         answer: Answer::Refused(nothing),
         replay: Replay::Refused(nothing),
+        bare: Bare::Refused(nothing),
     });
     [ordinary].into_iter().chain(proved()).collect()
 }
@@ -35,6 +44,7 @@ struct Ordinary {
     session: Session,
     answer: Answer,
     replay: Replay,
+    bare: Bare,
 }
 
 impl Contender for Ordinary {
@@ -43,7 +53,14 @@ impl Contender for Ordinary {
     }
 
     fn call(&mut self, timed: &Timed, file: &[u8], buffer: &mut [u8]) {
-        match timed.call {
+        let call = match timed.call {
+            Asked::Of(call) => call,
+            Asked::Image => {
+                self.bare = judge_image(file, buffer);
+                return;
+            }
+        };
+        match call {
             Call::Judge => self.answer = self.judge.judge(file, buffer),
             Call::Replay => self.replay = self.judge.replay(file, buffer),
             Call::Short => self.replay = self.judge.convert(Edition::Short, file, buffer),
@@ -58,10 +75,11 @@ impl Contender for Ordinary {
         }
     }
 
-    fn words(&self, call: Call) -> Vec<u64> {
+    fn words(&self, call: Asked) -> Vec<u64> {
         let mut words = match call {
-            Call::Judge | Call::Port => judge_words(&self.answer.into()),
-            Call::Replay | Call::Short | Call::Long => replay_words(&self.replay.into()),
+            Asked::Of(Call::Judge | Call::Port) => judge_words(&self.answer.into()),
+            Asked::Of(_) => replay_words(&self.replay.into()),
+            Asked::Image => shown_words(&self.bare.into()),
         };
         words.resize(WORDS, 0);
         words
@@ -73,7 +91,7 @@ impl Contender for Ordinary {
 #[derive(Clone, Copy)]
 pub struct Timed {
     pub name: &'static str,
-    pub call: Call,
+    pub call: Asked,
     pub at_a_time: usize,
     pub room: usize,
     pub code: u64,
@@ -81,7 +99,7 @@ pub struct Timed {
 
 pub const JUDGE: Timed = Timed {
     name: "judge",
-    call: Call::Judge,
+    call: Asked::Of(Call::Judge),
     at_a_time: usize::MAX,
     room: image::LONGEST,
     code: 0,
@@ -97,7 +115,7 @@ pub const TAKING: Timed = Timed {
 
 pub const REPLAY: Timed = Timed {
     name: "replay",
-    call: Call::Replay,
+    call: Asked::Of(Call::Replay),
     room: replay::LONGEST,
     ..JUDGE
 };
@@ -105,7 +123,7 @@ pub const REPLAY: Timed = Timed {
 /// The judge of a file that comes in pieces of 4,096 bytes, and of 64.
 pub const LARGE_PIECES: Timed = Timed {
     name: "in 4,096",
-    call: Call::Port,
+    call: Asked::Of(Call::Port),
     at_a_time: 4_096,
     ..JUDGE
 };
@@ -118,16 +136,48 @@ pub const SMALL_PIECES: Timed = Timed {
 
 pub const SHORT: Timed = Timed {
     name: "short",
-    call: Call::Short,
+    call: Asked::Of(Call::Short),
     room: Store::MAX_BYTES,
     ..JUDGE
 };
 
 pub const LONG: Timed = Timed {
     name: "long",
-    call: Call::Long,
+    call: Asked::Of(Call::Long),
     ..SHORT
 };
+
+/// The judge of an image, given the image of a trace.
+pub const IMAGE: Timed = Timed {
+    name: "order",
+    call: Asked::Image,
+    room: ROOM,
+    ..JUDGE
+};
+
+/// Fails unless every contender shows of every image what the model says: the
+/// same order, or a ring.
+pub fn check_images(contenders: &mut [Box<dyn Contender>], images: &[Trace]) {
+    for (place, image) in images.iter().enumerate() {
+        let store = shaped(&image.bytes).expect("the image of a trace");
+        let links = links(&store);
+        let due = order_or_ring(&store, &links);
+        for contender in contenders.iter_mut() {
+            let name = format!("{}, image {place}", contender.name());
+            let mut shown = [0; ROOM];
+            contender.call(&IMAGE, &image.bytes, &mut shown);
+            let words = contender.words(IMAGE.call);
+            let shown = shown[..words[1] as usize].iter();
+            let shown: Vec<CommitNumber> = shown.map(|&byte| CommitNumber(byte.into())).collect();
+            match &due {
+                model::bare::Bare::Order(order) => {
+                    assert_eq!((words[0], &shown), (0, order), "{name}")
+                }
+                _ => assert!(words[0] == 19 && is_ring(&links, &shown), "{name}"),
+            }
+        }
+    }
+}
 
 /// Fails unless every contender answers a call for every trace with the code
 /// that is due, and all of them with the same words and the same bytes in the

@@ -1,6 +1,6 @@
 //! An ordinary fast judge of trace files, which writes replays and both editions
-//! too and takes files in pieces, the traces it is timed with, and the proved
-//! calls to be timed beside it.
+//! too, takes files in pieces and judges bare images, the traces it is timed
+//! with, and the proved calls to be timed beside it.
 
 pub mod answer;
 pub mod contender;
@@ -9,5 +9,5 @@ pub mod ordinary;
 pub mod proved;
 pub mod traces;
 
-pub use answer::{Answer, Refusal, Replay, Report, Verdict};
-pub use ordinary::{Judge, Session};
+pub use answer::{Answer, Bare, Refusal, Replay, Report, Verdict};
+pub use ordinary::{judge_image, Judge, Session};

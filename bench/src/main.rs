@@ -1,19 +1,21 @@
 //! The benchmark: times the ordinary judge, and the proved one beside it if it
 //! is linked in (feature `proved`), round by round on the same traces, over 16
 //! keys and over 32; what of that goes to the arrays; then files that come in
-//! pieces, and the replay, beside the judge; then both editions of the traces.
-//! With `--short` it leaves out how the times grow, and with `--editions` all but
-//! the editions.
+//! pieces, and the replay, beside the judge; then both editions of the traces, and
+//! their images judged by themselves. With `--short` it leaves out how the times
+//! grow, with `--editions` all but the editions, and with `--images` all but the
+//! images.
 
 use std::hint::black_box;
 use std::time::Instant;
 
 use bench::contender::{
-    check, contenders, Contender, Timed, JUDGE, LARGE_PIECES, LONG, REPLAY, SHORT, SMALL_PIECES,
-    TAKING,
+    check, check_images, contenders, Contender, Timed, IMAGE, JUDGE, LARGE_PIECES, LONG, REPLAY,
+    SHORT, SMALL_PIECES, TAKING,
 };
 use bench::form::COMMITS;
-use bench::traces::{asking, describe, in_edition, timed, Style, Trace, NUMBER};
+use bench::traces::{asking, describe, images, in_edition, timed, Style, Trace, NUMBER};
+use model::bare::ROOM;
 use model::Edition;
 
 /// Numbers of keys of the traces with a table of their own.
@@ -363,6 +365,59 @@ fn print_editions(contenders: &mut [Box<dyn Contender>], keys: usize) {
     }
 }
 
+/// Images judged by themselves, in the same rounds as the traces that they are of.
+fn print_images(contenders: &mut [Box<dyn Contender>], keys: usize) {
+    let mut traces = timed(COMMITS, keys);
+    traces.extend(asking(NUMBER / 2, COMMITS, keys));
+    let images = images(&traces);
+    check_images(contenders, &images);
+    let bytes: usize = images.iter().map(|image| image.bytes.len()).sum();
+    println!(
+        "\nimages, {keys} keys: {} images, mean {} bytes",
+        images.len(),
+        bytes / images.len()
+    );
+    let tasks = [(&JUDGE, &traces[..]), (&IMAGE, &images[..])];
+    let times = time_each(contenders, tasks);
+    for style in Style::ALL.into_iter().chain(Style::ASKING) {
+        let places: Vec<usize> = (0..traces.len())
+            .filter(|&place| traces[place].style == style)
+            .collect();
+        let ordered = |&&place: &&usize| {
+            contenders[0].call(&IMAGE, &images[place].bytes, &mut [0; ROOM]);
+            contenders[0].words(IMAGE.call)[0] == 0
+        };
+        let orders = places.iter().filter(ordered).count();
+        let name = style.name();
+        println!("{name}: {} images, {orders} with an order", places.len());
+        print_head(contenders);
+        for (timed, times) in [JUDGE, IMAGE].iter().zip(&times) {
+            for way in Way::ALL {
+                print_row(timed.name, way, &means(times, way, &places));
+            }
+        }
+    }
+}
+
+/// How the time for an image grows.
+fn print_growth_of_images(contenders: &mut [Box<dyn Contender>]) {
+    println!("\nimages by commits and keys, {NUMBER} each");
+    let by_commits = [1, 2, 4, 8, 16, 32, 48].map(|commits| (commits, KEYS[1]));
+    let by_keys = [1, 2, 4, 8, 16, 32].map(|keys| (COMMITS, keys));
+    for (commits, keys) in by_commits.into_iter().chain(by_keys) {
+        let images = images(&timed(commits, keys));
+        check_images(contenders, &images);
+        let times = time(contenders, &IMAGE, &images);
+        let all: Vec<usize> = (0..images.len()).collect();
+        let bytes: usize = images.iter().map(|image| image.bytes.len()).sum();
+        let mean = bytes / images.len();
+        println!("{commits} commits, {keys} keys, mean {mean} bytes");
+        for way in Way::ALL {
+            print_row(IMAGE.name, way, &means(&times, way, &all));
+        }
+    }
+}
+
 /// The time of each contender, and the ratios to the first.
 fn print_row(name: &str, way: Way, times: &[f64]) {
     print!("{name:<12} {:>10}", way.name());
@@ -438,6 +493,13 @@ fn main() {
         }
         return;
     }
+    if asked("--images") {
+        for keys in KEYS {
+            print_images(&mut contenders, keys);
+        }
+        print_growth_of_images(&mut contenders);
+        return;
+    }
     let [long, wide] = KEYS.map(|keys| timed(COMMITS, keys));
     print_judge(&mut contenders, [&long, &wide]);
     print_pieces(&mut contenders, [&long, &wide]);
@@ -447,9 +509,13 @@ fn main() {
     for keys in KEYS {
         print_editions(&mut contenders, keys);
     }
+    for keys in KEYS {
+        print_images(&mut contenders, keys);
+    }
     if asked("--short") {
         return;
     }
+    print_growth_of_images(&mut contenders);
 
     println!("\nby commits, {NUMBER} traces each");
     let sizes = [1, 2, 4, 8, 16, 24, 32, 48, COMMITS].map(|commits| (commits, KEYS[0]));

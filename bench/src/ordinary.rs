@@ -13,10 +13,12 @@
 //! Loops over all keys have a fixed length. There are two lengths, each with a
 //! workspace of its own: half of the keys, for a trace that has no more, and all.
 
+mod bare;
 mod editions;
 mod replay;
 mod session;
 
+pub use bare::judge_image;
 pub use session::Session;
 
 use crate::answer::{Answer, Refusal, Report, Verdict};

@@ -2,7 +2,7 @@
 
 use crate::contender::Contender;
 #[cfg(feature = "proved")]
-use crate::contender::Timed;
+use crate::contender::{Asked, Timed};
 
 /// The proved calls, if they are linked in.
 #[cfg(not(feature = "proved"))]
@@ -35,7 +35,14 @@ impl Contender for Proved {
     fn call(&mut self, timed: &Timed, file: &[u8], buffer: &mut [u8]) {
         let Proved { words, kept } = self;
         words.fill(0);
-        match timed.call {
+        let call = match timed.call {
+            Asked::Of(call) => call,
+            Asked::Image => {
+                consistency::judge_image_words(file, buffer, words);
+                return;
+            }
+        };
+        match call {
             model::Call::Judge => consistency::judge_words(file, buffer, words),
             model::Call::Replay => consistency::replay_words(file, buffer, words),
             model::Call::Short => consistency::short_words(file, buffer, words),
@@ -50,7 +57,7 @@ impl Contender for Proved {
         };
     }
 
-    fn words(&self, _: model::Call) -> Vec<u64> {
+    fn words(&self, _: Asked) -> Vec<u64> {
         self.words.to_vec()
     }
 }

@@ -9,8 +9,9 @@
 //! accept them to the end, while nearly every view is behind the store.
 
 use crate::form::COMMITS;
+use crate::{Answer, Judge};
 use model::random::Random;
-use model::{form, Edition};
+use model::{form, image, Edition};
 use std::collections::HashMap;
 
 const CLIENTS: usize = 16;
@@ -98,6 +99,21 @@ pub fn in_edition(traces: &[Trace], edition: Edition) -> Vec<Trace> {
         ..*trace
     });
     written.collect()
+}
+
+/// The image of each trace.
+pub fn images(traces: &[Trace]) -> Vec<Trace> {
+    let mut judge = Judge::new();
+    let mut buffer = vec![0; image::LONGEST];
+    let mut image = |trace: &Trace| match judge.judge(&trace.bytes, &mut buffer) {
+        Answer::Judged(report) => buffer[..report.image_len as usize].to_vec(),
+        Answer::Refused(refusal) => panic!("{refusal:?}"),
+    };
+    let images = traces.iter().map(|trace| Trace {
+        bytes: image(trace),
+        ..*trace
+    });
+    images.collect()
 }
 
 /// A trace in the making, with the store that it has made so far.

@@ -3,12 +3,15 @@
 
 use bench::form::COMMITS;
 use bench::traces::{asking, describe, in_edition, timed, traces, Trace};
-use bench::{Judge, Session};
+use bench::{judge_image, Judge, Session};
+use model::bare::{is_ring, links, shaped, show, Bare, Shown, ROOM};
 use model::buffer::{pattern, untouched, LONG};
 use model::facts::accepts;
 use model::generate::growing_case;
+use model::met::images::Images;
 use model::met::Met;
 use model::random::Random;
+use model::store::CommitNumber;
 use model::{outcome, Answer, Call, Conversion, Edition, Outcome, Replay, Verdict};
 use std::collections::BTreeMap;
 
@@ -275,6 +278,32 @@ fn spoiled_traces() {
     let met: Vec<u8> = codes.into_keys().collect();
     let due = [0, 1, 2, 3, 4, 5, 6, 7, 9, 10, 11, 12, 13, 14];
     assert_eq!(met, due, "the codes met");
+}
+
+/// The judge of images on generated ones: the order is the model's, a ring is one,
+/// and what must be untouched is untouched.
+#[test]
+fn generated_images() {
+    let met = Images::of(0..10_000, |seed, case, bare| {
+        let check = |room: usize| {
+            let (mut shown, mut due) = (pattern(room), pattern(room));
+            let answer = Shown::from(judge_image(&case.bytes, &mut shown));
+            let mut due_answer = show(bare, &mut due);
+            if let (Shown::Ring(_), Shown::Ring(commits)) = (due_answer, answer) {
+                let ring = shown[..commits].iter();
+                let ring: Vec<CommitNumber> = ring.map(|&byte| CommitNumber(byte.into())).collect();
+                let store = shaped(&case.bytes).expect("it is an image");
+                assert!(is_ring(&links(&store), &ring), "seed {seed}");
+                due = pattern(room);
+                due_answer = show(&Bare::Ring(ring), &mut due);
+            }
+            assert_eq!(answer, due_answer, "seed {seed}");
+            assert!(shown == due, "seed {seed}: other bytes");
+            answer.code()
+        };
+        [0, ROOM - 1, ROOM, ROOM + 9].map(check).to_vec()
+    });
+    met.lacks_nothing();
 }
 
 /// The traces that ask much of the paths of links do so to their end: CP and SI

@@ -1,4 +1,4 @@
-/* The proved calls on trace files, for callers in C and C++ on x86-64.
+/* The proved calls on trace files and images, for callers in C and C++ on x86-64.
  *
  *     rt staticlib consistency
  *     cc -I bindings/c YOUR.c target/staticlib/libconsistency.a
@@ -35,6 +35,7 @@ extern "C" {
 /* Each call but `open_session` and those that write a report answers a code:
  *
  *     0            it has an answer, in the words that the call says;
+ *     19           `judge_image` has the other one of its two answers;
  *     255          there is no room for the words of an answer: nothing was done, and nothing is written;
  *     any other    a refusal, by the table.
  *
@@ -61,8 +62,10 @@ extern "C" {
  *       14 | a view changed at a key without an operation                            | record, least key
  *       15 | the image buffer is shorter than the image                              |
  *       16 | SER does not accept the trace, so that it has no replay                 | record, key and version of SER's verdict
- *       17 | the file buffer is shorter than the file, or than the pieces that came  |
+ *       17 | a buffer is too short for the file, the pieces that came, or 63 commits |
  *       18 | the session is closed                                                   |
+ *       19 | no order of the commits gives the image; a ring is shown                |
+ *       20 | the image is misshapen                                                  |
  *       22 | the file that is to be written has more than 65,536 bytes               |
  *
  * A call gives these and no others:
@@ -73,6 +76,7 @@ extern "C" {
  *     replay_file   | 1 to 14, then 16, then 17
  *     short_file    | 1 to 14, then 22, then 17
  *     long_file     | 1 to 14, then 22, then 17
+ *     judge_image   | 20, then 17, then 19
  *     push_piece    | 18
  *     close_session | 18, then 17, then 1 to 14, then 15
  *
@@ -187,6 +191,28 @@ size_t report_file(const uint8_t *file, size_t file_length,
                    uint8_t *text, size_t text_length);
 
 #define CONSISTENCY_REPORT_STACK 81920
+
+/* Judges the image in the first `image_length` bytes at `image`, whose trace need not be there: is there an order of its commits, each made
+ * from a view of everything, that gives these versions, writers and readers, with each client's session numbers in order? The views in
+ * the image are not looked at.
+ *
+ * Code 0: there is. The order stands at the start of `shown`, one byte a commit: each time the lowest-numbered commit that no other
+ * which is left has a link to. Code 19: there is none. A ring of SO, WR, WW or RW links stands there, in the order of its links and without
+ * a commit twice; a commit that read its own version is one. Two words are written:
+ *
+ *     0       1
+ *     code    how many commits are shown
+ *
+ * The bytes of `shown` behind these are as they were. Codes 17 and 20 write no byte of `shown`. Where `words` has less than
+ * CONSISTENCY_IMAGE_WORDS, the code is 255. */
+uint64_t judge_image(const uint8_t *image, size_t image_length,
+                     uint8_t *shown, size_t shown_length,
+                     uint64_t *words, size_t words_length);
+
+/* No image has more commits; a shorter `shown` is code 17. */
+#define CONSISTENCY_MOST_COMMITS 63
+#define CONSISTENCY_IMAGE_WORDS 5
+#define CONSISTENCY_IMAGE_STACK 8192
 
 /* A trace file that comes in pieces, of any size and cut anywhere, empty ones too. The record stays with the caller, and each call changes it
  * in place; the bytes are kept in a second place, `kept`, which is to have CONSISTENCY_LONGEST_FILE bytes and is lent with each call, the same

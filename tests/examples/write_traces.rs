@@ -1,6 +1,7 @@
 //! Writes the example traces, and what the programs must print for them,
 //! to where the repository keeps them: `examples/` and `crates/`.
 
+use model::bare::{bare, line};
 use model::example_traces::{trace_b, trace_c, trace_e};
 use model::files::{arguments, at, files, printed, replay_of, report_of, written_of};
 use model::trace::encode;
@@ -25,6 +26,10 @@ fn main() -> std::io::Result<()> {
     fs::write(at("crates/image/stdin"), &b)?;
     fs::write(at("crates/image/stdout"), written_of(Call::Judge, &b))?;
     let e = encode(&trace_e());
+    fs::create_dir_all(at("crates/order"))?;
+    let image = written_of(Call::Judge, &e);
+    fs::write(at("crates/order/stdin"), &image)?;
+    fs::write(at("crates/order/stdout"), line(&bare(&image)))?;
     fs::write(at("crates/replay/stdin"), &e)?;
     fs::write(at("crates/replay/stdout"), replay_of(&e))?;
     let c = encode(&trace_c());

@@ -1,17 +1,21 @@
-//! The proved calls beside the model: the same answer to a file, the same
-//! words, and the same bytes in the lent buffer, whatever its length.
+//! The proved calls beside the model: the same answer to a file, or to an image,
+//! the same words, and the same bytes in the lent buffer, whatever its length.
 
+use crate::bare::{is_ring, links, shaped, show, Bare, Shown};
 use crate::buffer::{pattern, UNTOUCHED};
 use crate::generate::pieces;
 use crate::port::{Port, Record, CLOSED};
 use crate::random::Random;
+use crate::store::CommitNumber;
+use crate::words::shown_words;
 use crate::{
     answer, replayed, written_in, Answer, Call, Conversion, Edition, Outcome, Replay, Verdict,
 };
 use consistency::{
-    close_session, judge, judge_words, long_words, open_session, push_piece, replay, replay_words,
-    report_session, short_words, Key, Refusal, Session, SessionRecord, Verdicts, VersionNumber,
-    CONVERSION_WORDS, JUDGE_WORDS, LONGEST_FILE, REPLAY_WORDS,
+    close_session, judge, judge_image, judge_image_words, judge_words, long_words, open_session,
+    push_piece, replay, replay_words, report_session, short_words, Key, Refusal, Session,
+    SessionRecord, Verdicts, VersionNumber, CONVERSION_WORDS, IMAGE_WORDS, JUDGE_WORDS,
+    LONGEST_FILE, REPLAY_WORDS,
 };
 
 /// Words behind those of an answer, which must not be touched.
@@ -146,6 +150,43 @@ pub fn compare(call: Call, name: &str, file: &[u8], outcome: &Outcome, length: u
     }
     assert!(bytes == due_bytes, "{name}: other bytes");
     due_code as u8
+}
+
+/// Holds the answer for an image and a buffer of this length to what the model
+/// says of the image. Which ring is shown is free: it must be one. Answers the
+/// code.
+pub fn compare_image(name: &str, image: &[u8], bare: &Bare, length: usize) -> u8 {
+    let name = format!("{name}, buffer of {length}");
+    let mut bytes = pattern(length);
+    let mut words = vec![UNTOUCHED; IMAGE_WORDS + BEHIND];
+    let code = judge_image_words(image, &mut bytes, &mut words);
+
+    let mut due_bytes = pattern(length);
+    let mut shown = show(bare, &mut due_bytes);
+    if let Shown::Ring(_) = shown {
+        let commits = words[1] as usize;
+        let ring = bytes[..commits].iter();
+        let ring: Vec<CommitNumber> = ring.map(|&byte| CommitNumber(byte.into())).collect();
+        let store = shaped(image).expect("it is no image else");
+        assert!(is_ring(&links(&store), &ring), "{name}: {ring:?}");
+        due_bytes = pattern(length);
+        shown = show(&Bare::Ring(ring), &mut due_bytes);
+    }
+    let mut due_words = shown_words(&shown);
+    due_words.resize(IMAGE_WORDS + BEHIND, UNTOUCHED);
+    assert_eq!(code, u64::from(shown.code()), "{name}");
+    assert_eq!(words, due_words, "{name}");
+    assert!(bytes == due_bytes, "{name}: other bytes");
+
+    let mut bytes = pattern(length);
+    let told = match shown {
+        Shown::Refused(refusal) => consistency::Bare::Refused(told_refusal(&refusal)),
+        Shown::Order(commits) => consistency::Bare::Order(commits),
+        Shown::Ring(commits) => consistency::Bare::Ring(commits),
+    };
+    assert_eq!(judge_image(image, &mut bytes), told, "{name}");
+    assert!(bytes == due_bytes, "{name}: other bytes");
+    shown.code()
 }
 
 /// Answers of the model in the types for callers in Rust.

@@ -1,10 +1,12 @@
 //! Seeded test files: taken traces of many styles, traces about the numbers of
-//! one client, files planted with one fault or with several, and spoiled bytes. The same seed gives the same
-//! file. What a file is known to be answered with comes along with it, found
-//! from how it was made and not by judging it.
+//! one client, files planted with one fault or with several, and spoiled bytes;
+//! and images whose trace is lost. The same seed gives the same file. What a file
+//! is known to be answered with comes along with it, found from how it was made
+//! and not by judging it.
 
 pub mod edges;
 pub mod editions;
+pub mod images;
 pub mod mangled;
 pub mod numbers;
 pub mod pieces;
@@ -14,6 +16,9 @@ pub mod taken;
 
 pub use edges::{edge_case, EDGES};
 pub use editions::{growing_case, mixed, GROWING};
+pub use images::{
+    image_case, long_ring, ImageCase, ImageExpected, DAMAGES, IMAGE_KINDS, LONGEST_RING,
+};
 pub use mangled::{mangled, record_places};
 pub use numbers::numbers_case;
 pub use pieces::{pieces, script, Script};

@@ -5,10 +5,12 @@
 //! slice, and either ten verdicts or one refusal (section "Bench codes"); and
 //! the calls of requests E1 and E6, which write the replay of a trace, or the
 //! trace in its short or long edition, into a lent file buffer; and the calls of
-//! request E5, by which a trace file comes in pieces. Everything is sets, maps
-//! and lists, as near to the wording of the paper as it goes. It is slow on
-//! purpose: it is there to be compared with.
+//! request E5, by which a trace file comes in pieces; and the call of request E9,
+//! which judges an image whose trace is lost. Everything is sets, maps and lists,
+//! as near to the wording of the paper as it goes. It is slow on purpose: it is
+//! there to be compared with.
 
+pub mod bare;
 #[cfg(feature = "proved")]
 pub mod beside;
 pub mod buffer;
@@ -62,7 +64,7 @@ impl Answer {
     }
 }
 
-/// One code, 1 to 18 or 22, with what it names; 0 where it names nothing.
+/// One code, 1 to 18, 20 or 22, with what it names; 0 where it names nothing.
 #[derive(Clone, Copy, PartialEq, Eq, PartialOrd, Ord, Debug)]
 pub struct Refusal {
     pub code: u8,

@@ -2,6 +2,7 @@
 //! something was never met.
 
 mod editions;
+pub mod images;
 mod views;
 
 use crate::facts;

@@ -43,13 +43,7 @@ impl Program {
 
     /// Where it was built.
     pub fn path(self) -> PathBuf {
-        let name = self.name();
-        let path = at("target/bin").join(name);
-        assert!(
-            path.exists(),
-            "there is no target/bin/{name}: `rt check {name}` builds it"
-        );
-        path
+        built(self.name())
     }
 
     /// What it has to say of a file that comes to this.
@@ -65,6 +59,16 @@ impl Program {
             },
         }
     }
+}
+
+/// Where the program of this name was built.
+pub fn built(name: &str) -> PathBuf {
+    let path = at("target/bin").join(name);
+    assert!(
+        path.exists(),
+        "there is no target/bin/{name}: `rt check {name}` builds it"
+    );
+    path
 }
 
 fn reported(outcome: &Outcome) -> Said {

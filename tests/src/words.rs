@@ -1,5 +1,6 @@
 //! Answers as words: `crates/words/specs/Layout.antt`.
 
+use crate::bare::Shown;
 use crate::levels::LEVELS;
 use crate::{Answer, Refusal, Replay, Verdict};
 
@@ -36,6 +37,15 @@ pub fn replay_words(answer: &Replay) -> Vec<u64> {
     match *answer {
         Replay::Refused(refusal) => refusal_words(&refusal),
         Replay::Written(length) => vec![0, length as u64],
+    }
+}
+
+pub fn shown_words(shown: &Shown) -> Vec<u64> {
+    match *shown {
+        Shown::Refused(refusal) => refusal_words(&refusal),
+        Shown::Order(commits) | Shown::Ring(commits) => {
+            vec![shown.code().into(), commits as u64]
+        }
     }
 }
 

@@ -3,8 +3,9 @@
 //! crate for Rust have the same numbers and tables, and no call takes more
 //! stack than they say.
 
+use consistency::Bare;
 use model::files::{at, files, report_of};
-use model::generate::{exactly_full, file, growing_case, largest, largest_serial};
+use model::generate::{exactly_full, file, growing_case, image_case, largest, largest_serial};
 use model::levels::{place_of, LEVELS};
 use model::port::CLOSED;
 use model::programs::{printed, run, Said};
@@ -67,13 +68,47 @@ fn told(answer: Replay, buffer: Vec<u8>) -> Said {
 /// answer.
 fn check(example: &Path, due: fn(&[u8]) -> Said) {
     for (name, trace) in files() {
-        let output = run(&mut Command::new(example), &trace.bytes, usize::MAX);
-        let (written, told) = due(&trace.bytes);
-        assert_eq!(output.stdout, written, "{name}");
-        assert_eq!(String::from_utf8_lossy(&output.stderr), told, "{name}");
-        assert_eq!(output.status.success(), told.is_empty(), "{name}");
+        check_one(example, name, &trace.bytes, due(&trace.bytes));
     }
     ends(example, due(&[0; consistency::LONGEST_FILE + 1]));
+    takes_no_failure(example);
+}
+
+fn check_one(example: &Path, name: &str, input: &[u8], (written, told): Said) {
+    let output = run(&mut Command::new(example), input, usize::MAX);
+    assert_eq!(output.stdout, written, "{name}");
+    assert_eq!(String::from_utf8_lossy(&output.stderr), told, "{name}");
+    assert_eq!(output.status.success(), told.is_empty(), "{name}");
+}
+
+/// The same of `print_order`, whose input is an image; the ring is that of the
+/// call in Rust.
+fn check_order(example: &Path) {
+    for seed in 0..100 {
+        let image = image_case(seed).bytes;
+        check_one(
+            example,
+            &format!("seed {seed}"),
+            &image,
+            print_order(&image),
+        );
+    }
+    ends(example, print_order(&[]));
+    takes_no_failure(example);
+}
+
+/// What `print_order` must print.
+fn print_order(image: &[u8]) -> Said {
+    let mut shown = [0; consistency::MOST_COMMITS];
+    let text = match consistency::judge_image(image, &mut shown) {
+        Bare::Refused(why) => format!("code {}\n", why.code),
+        Bare::Order(commits) => format!("in this order: {:?}\n", &shown[..commits]),
+        Bare::Ring(commits) => format!("in none, see {:?}\n", &shown[..commits]),
+    };
+    (text.into_bytes(), String::new())
+}
+
+fn takes_no_failure(example: &Path) {
     let folder = File::open(at("examples")).expect("a folder");
     fails(Command::new(example).stdin(folder));
     let file = File::open(at("examples/E-lost-view")).expect("a trace file");
@@ -167,9 +202,11 @@ fn from_rust() {
             .arg(room().join("rust"))
             .current_dir(at("bindings/rust")),
     );
+    let built = room().join("rust/debug/examples");
     for name in ["keeps_si", "keeps_si_in_pieces"] {
-        check(&room().join("rust/debug/examples").join(name), keeps_si);
+        check(&built.join(name), keeps_si);
     }
+    check_order(&built.join("print_order"));
 }
 
 #[test]
@@ -183,6 +220,7 @@ fn from_c() {
     check(&program, write_short);
     let program = compiled("report_pieces", words, "bindings/c/report_pieces.c");
     check(&program, print_report);
+    check_order(&compiled("print_order", words, "bindings/c/print_order.c"));
 }
 
 /// The examples in C are examples in C++ too.
@@ -197,6 +235,8 @@ fn from_cpp() {
     check(&program, write_short);
     let program = compiled("report_pieces_cpp", words, "bindings/c/report_pieces.c");
     check(&program, print_report);
+    let program = compiled("print_order_cpp", words, "bindings/c/print_order.c");
+    check_order(&program);
     let program = compiled("print_report", words, "bindings/c/print_report.cc");
     check(&program, print_report);
 }
@@ -245,6 +285,7 @@ fn the_numbers_of_the_header() {
     assert_eq!(consistency::LONGEST_REPORT, model::text::LONGEST);
     assert_eq!(consistency::JUDGE_WORDS, model::words::JUDGE);
     assert_eq!(consistency::NO_ROOM, model::words::NO_ROOM);
+    assert_eq!(consistency::MOST_COMMITS, model::bare::ROOM);
     let defines = |name: &str, number: usize| {
         has(format!("#define CONSISTENCY_{name} {number}\n"));
     };
@@ -261,6 +302,9 @@ fn the_numbers_of_the_header() {
     defines("CONVERSION_WORDS", consistency::CONVERSION_WORDS);
     defines("CONVERSION_STACK", consistency::CONVERSION_STACK);
     defines("REPORT_STACK", consistency::REPORT_STACK);
+    defines("MOST_COMMITS", consistency::MOST_COMMITS);
+    defines("IMAGE_WORDS", consistency::IMAGE_WORDS);
+    defines("IMAGE_STACK", consistency::IMAGE_STACK);
     defines("PUSH_STACK", consistency::PUSH_STACK);
     defines("CLOSE_STACK", consistency::CLOSE_STACK);
     let places: Vec<String> = (0..LEVELS.len())
@@ -305,7 +349,7 @@ fn the_table_of_codes() {
         &["code", "refused since", "names"],
     );
     let long = table("docs/FORMAT.md", &["code", "when", "names", "what to do"]);
-    let answered = "judged, or the file is written, or the piece is taken";
+    let answered = "judged, or the file is written, or the piece is taken, or an order is shown";
     assert_eq!(long[0][..2], ["0", answered]);
     assert_eq!(codes.len(), long.len() - 1);
     for (code, long) in codes.iter().zip(&long[1..]) {
@@ -327,10 +371,11 @@ fn the_table_of_calls() {
         of_files(Call::Replay),
         of_files(Call::Short),
         of_files(Call::Long),
+        "20, then 17, then 19".to_string(),
         CLOSED.to_string(),
         format!("{CLOSED}, then 17, then {}", of_files(Call::Port)),
     ];
-    let due = |names: [String; 6]| -> Vec<Vec<String>> {
+    let due = |names: [String; 7]| -> Vec<Vec<String>> {
         let rows = names.into_iter().zip(codes.clone());
         rows.map(|(name, codes)| vec![name, codes]).collect()
     };
@@ -339,6 +384,7 @@ fn the_table_of_calls() {
         "replay_file",
         "short_file",
         "long_file",
+        "judge_image",
         "push_piece",
         "close_session",
     ];
@@ -400,29 +446,46 @@ fn all_sorts() -> Vec<Vec<u8>> {
         .collect()
 }
 
+/// Images of all sorts, none longer than a file may be.
+fn images() -> Vec<Vec<u8>> {
+    let images = (0..1_000).map(|seed| image_case(seed).bytes);
+    images
+        .filter(|image| image.len() <= consistency::LONGEST_FILE)
+        .collect()
+}
+
 /// What each call takes, measured. The program looks up `memcpy` and `memset`
 /// where they are first called, which takes stack too.
 #[test]
 fn the_stack_of_each_call() {
     let words = "gcc -std=c11 -pthread -Wl,-z,lazy";
     let program = compiled("stack", words, "tests/tests/callers/stack.c");
-    let mut input = Vec::new();
-    for file in all_sorts() {
-        input.extend((file.len() as u64).to_le_bytes());
-        input.extend(file);
-    }
+    let listed = |files: Vec<Vec<u8>>| {
+        let mut input = Vec::new();
+        for file in files {
+            input.extend((file.len() as u64).to_le_bytes());
+            input.extend(file);
+        }
+        input
+    };
+    let [traces, images] = [listed(all_sorts()), listed(images())];
     for (call, promised) in [
         ("judge_file", consistency::JUDGE_STACK),
         ("replay_file", consistency::REPLAY_STACK),
         ("short_file", consistency::CONVERSION_STACK),
         ("long_file", consistency::CONVERSION_STACK),
         ("report_file", consistency::REPORT_STACK),
+        ("judge_image", consistency::IMAGE_STACK),
         ("open_session", consistency::PUSH_STACK),
         ("push_piece", consistency::PUSH_STACK),
         ("close_session", consistency::CLOSE_STACK),
         ("report_session", consistency::CLOSE_STACK),
     ] {
-        let said = printed(Command::new(&program).arg(call), &input);
+        let input = match call {
+            "judge_image" => &images,
+            _ => &traces,
+        };
+        let said = printed(Command::new(&program).arg(call), input);
         let taken: usize = said.trim().parse().expect("a number");
         println!("{call}: {taken} bytes of stack, {promised} promised");
         assert!(0 < taken && taken <= promised, "{call}");
@@ -461,6 +524,16 @@ fn the_stack_of_each_call_in_rust() {
     });
     on_a_thread(consistency::REPORT_STACK, |file, image, text| {
         consistency::report(file, image, text);
+    });
+    let images = images();
+    thread::scope(|scope| {
+        let thread = thread::Builder::new().stack_size(consistency::IMAGE_STACK + THREAD);
+        let calls = || {
+            images.iter().for_each(|image| {
+                consistency::judge_image(image, &mut [0; consistency::MOST_COMMITS]);
+            })
+        };
+        thread.spawn_scoped(scope, calls).expect("a thread");
     });
     on_a_thread(consistency::PUSH_STACK, |file, _, _| {
         let mut session = consistency::Session::open();

@@ -1,6 +1,7 @@
 //! The files that the repository keeps are those of the model. Where one is
 //! not, `cargo run --offline --example write_traces` writes them again.
 
+use model::bare::{bare, line};
 use model::example_traces::{trace_b, trace_c, trace_e};
 use model::files::{arguments, at, files, printed, replay_of, report_of, written_of};
 use model::store::Store;
@@ -62,6 +63,9 @@ fn what_the_programs_read_and_print() {
     assert_eq!(kept("crates/image/stdin"), b);
     assert_eq!(kept("crates/image/stdout"), written_of(Call::Judge, &b));
     let e = encode(&trace_e());
+    let image = written_of(Call::Judge, &e);
+    assert_eq!(kept("crates/order/stdin"), image);
+    assert_eq!(kept("crates/order/stdout"), line(&bare(&image)).as_bytes());
     assert_eq!(kept("crates/replay/stdin"), e);
     assert_eq!(kept("crates/replay/stdout"), replay_of(&e));
     let c = encode(&trace_c());

@@ -48,6 +48,15 @@ extern "C" {
         text_length: usize,
     ) -> usize;
 
+    pub fn judge_image(
+        image: *const u8,
+        image_length: usize,
+        shown: *mut u8,
+        shown_length: usize,
+        words: *mut u64,
+        words_length: usize,
+    ) -> u64;
+
     pub fn open_session(session: *mut SessionRecord);
 
     pub fn push_piece(

@@ -1,4 +1,4 @@
-//! The proved calls on trace files, for callers in Rust.
+//! The proved calls on trace files and images, for callers in Rust.
 //!
 //! `crates/consistency/src/lib.rt` says what is proved of each call; the types
 //! are those of the proved crates below it. Nothing is asked of a caller: any
@@ -7,7 +7,7 @@
 //! more stack than its constant says; the buffers are the caller's.
 //!
 //! A file is given whole, or in pieces to a [`Session`], which has a buffer of
-//! its own for them.
+//! its own for them. An image whose trace is lost is given to [`judge_image`].
 //!
 //! [`Refusal`] has the table of codes and that of the calls which give them,
 //! [`Verdicts`] that of levels and [`Verdict`] that of clauses.
@@ -15,6 +15,7 @@
 //! and the report, and the long form of the tables.
 
 mod archive;
+mod bare;
 mod converting;
 mod judging;
 mod refusal;
@@ -22,6 +23,7 @@ mod replaying;
 mod report;
 mod session;
 
+pub use bare::{judge_image, judge_image_words, Bare, IMAGE_STACK, IMAGE_WORDS, MOST_COMMITS};
 pub use converting::{
     long, long_words, short, short_words, Conversion, CONVERSION_STACK, CONVERSION_WORDS,
 };

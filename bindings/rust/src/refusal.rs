@@ -30,8 +30,10 @@ pub struct VersionNumber(pub usize);
 /// | 14 | a view changed at a key without an operation | record, least key |
 /// | 15 | the image buffer is shorter than the image | |
 /// | 16 | SER does not accept the trace, so that it has no replay | record, key and version of SER's verdict |
-/// | 17 | the file buffer is shorter than the file, or than the pieces that came | |
+/// | 17 | a buffer is too short for the file, the pieces that came, or 63 commits | |
 /// | 18 | the session is closed | |
+/// | 19 | no order of the commits gives the image; a ring is shown | |
+/// | 20 | the image is misshapen | |
 /// | 22 | the file that is to be written has more than 65,536 bytes | |
 ///
 /// A call gives these and no others:
@@ -42,6 +44,7 @@ pub struct VersionNumber(pub usize);
 /// | [`replay`](crate::replay) | 1 to 14, then 16, then 17 |
 /// | [`short`](crate::short) | 1 to 14, then 22, then 17 |
 /// | [`long`](crate::long) | 1 to 14, then 22, then 17 |
+/// | [`judge_image`](crate::judge_image) | 20, then 17, then 19 |
 /// | [`push_piece`](crate::push_piece) | 18 |
 /// | [`close_session`](crate::close_session) | 18, then 17, then 1 to 14, then 15 |
 ///

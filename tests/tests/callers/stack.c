@@ -1,7 +1,7 @@
 /* How many bytes of stack a call takes; the first word says which call. Each time it is made on a thread of its own, whose stack has a pattern in
  * it beforehand: what it took reaches from where the thread makes the call down to the lowest word that is another one afterwards.
  *
- * Standard input has trace files, each with its length before it (8 bytes, the lowest first). Each is given to the call without a buffer and
+ * Standard input has trace files, or images, each with its length before it (8 bytes, the lowest first). Each is given to the call without a buffer and
  * with one that is long enough. Prints the most that was taken. */
 #define _XOPEN_SOURCE 600
 #include "consistency.h"
@@ -51,6 +51,12 @@ static void *report(void *nothing) {
     return nothing;
 }
 
+static void *judge_one(void *nothing) {
+    start = __builtin_frame_address(0);
+    judge_image(file, file_length, buffer, buffer_length, words, CONSISTENCY_IMAGE_WORDS);
+    return nothing;
+}
+
 /* The record is one that is there, so that a call needs no other before it. */
 static void *open_one(void *nothing) {
     start = __builtin_frame_address(0);
@@ -83,7 +89,7 @@ static const struct {
     const char *name;
     void *(*make)(void *);
 } calls[] = {{"judge_file", judge}, {"replay_file", replay}, {"short_file", shorten}, {"long_file", lengthen}, {"report_file", report},
-             {"open_session", open_one}, {"push_piece", push}, {"close_session", close_one}, {"report_session", report_one}};
+             {"judge_image", judge_one}, {"open_session", open_one}, {"push_piece", push}, {"close_session", close_one}, {"report_session", report_one}};
 
 static void must(int holds, const char *what) {
     if (holds) return;
