@@ -4,11 +4,10 @@ use Prim.Native.Nat.{ℕ}
 use mathlib.Core.Path.{_≡_, refl}
 use mathlib.Core.Bool.{Bool, true, false}
 use mathlib.Core.List.{List, [], _∷_}
-use Rattle.search.specs.Choose.{choose, isSome}
+use Rattle.search.specs.Choose.{choose}
 use Rattle.search.specs.Search.{any}
 use Rattle.store.specs.Store.{Client, openingStore, opening, write, Operation, Commit, commit}
-use Rattle.store.specs.Update.{noteRead, append, valueOf, update, step, final}
-use Rattle.store.specs.Links.{holds}
+use Rattle.store.specs.Update.{update, step, final}
 use Rattle.store.specs.Refusal.{oldNumber}
 
 -- a commit that leaves key 0 at its first version
@@ -23,5 +22,5 @@ abbrev writing : List Operation
 writing = record { access = write; key = 0; value = 1 } ∷ []
 
 pub numbers-asked : (tooSmall (numbered 0 7 []) ≡ true) × (tooSmall (numbered 0 7 writing) ≡ true) × (tooSmall (numbered 0 8 []) ≡ false) × (tooSmall (numbered 1 7 []) ≡ false)
-unfolding choose isSome any holds openingStore opening noteRead append valueOf update step final oldNumber
+unfolding choose any openingStore opening update step final oldNumber
 numbers-asked = (refl, refl, refl, refl)
