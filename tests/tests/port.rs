@@ -2,8 +2,9 @@
 //! proved calls beside it if they are linked in.
 
 use model::buffer::{pattern, untouched, LONG, UNTOUCHED};
-use model::example_traces::{all, trace_b};
-use model::generate::{exactly_full, file, pieces};
+use model::example_traces::{all, trace_b, trace_c};
+use model::generate::editions::kinds;
+use model::generate::{exactly_full, file, mixed, pieces};
 #[cfg(feature = "proved")]
 use model::generate::{script, Script};
 use model::port::{Caller, Joined, Left, Move, Port, Record, CLOSED, MODEL};
@@ -12,7 +13,7 @@ use model::store::Store;
 use model::trace::encode;
 use model::words::{judge_words, JUDGE, NO_ROOM};
 use model::{answer, outcome, report, text, Answer, Outcome, Refusal};
-use std::collections::BTreeMap;
+use std::collections::{BTreeMap, BTreeSet};
 
 /// Whose calls are tested.
 fn ports() -> Vec<&'static dyn Port> {
@@ -162,6 +163,29 @@ fn pieces_of_one_byte() {
     for example in all() {
         let pieces: Vec<&[u8]> = example.bytes.chunks(1).collect();
         check(example.name, &pieces, &outcome(&example.bytes));
+    }
+}
+
+/// A session knows no kinds of records: a file that has all four, cut everywhere,
+/// and the short editions byte by byte, which are judged as the long files.
+#[test]
+fn files_of_both_editions() {
+    let mut mixtures = (0..).map(|seed| mixed(&mut Random::seeded(seed), &trace_c()));
+    let all_four = |file: &Vec<u8>| BTreeSet::from_iter(kinds(file)).len() == 4;
+    let file = mixtures.find(all_four).expect("some mixture has them");
+    let due = outcome(&encode(&trace_c()));
+    assert!(due.is_ok());
+    for first in 0..=file.len() {
+        let (one, rest) = file.split_at(first);
+        check(&format!("all kinds, cut at {first}"), &[one, rest], &due);
+    }
+    for example in all() {
+        let due = outcome(&example.bytes);
+        if let Ok(taken) = &due {
+            let short = taken.short.as_ref().expect("it fits");
+            let pieces: Vec<&[u8]> = short.chunks(1).collect();
+            check(example.name, &pieces, &due);
+        }
     }
 }
 
