@@ -3,8 +3,8 @@
  *     rt staticlib consistency
  *     cc -I bindings/c YOUR.c target/staticlib/libconsistency.a
  *
- * crates/consistency/src/lib.rt says what is proved of each call. docs/FORMAT.md has the trace file, its two editions, the image, the
- * replay and the report, and the tables below in their long form: what to do about each code, and an example for each clause.
+ * crates/consistency/src/lib.rt says what is proved of each call. docs/FORMAT.md has the trace file, its two editions, the image and its
+ * order, the replay and the report, and the tables below in their long form: what to do about each code, and an example for each clause.
  *
  * All places that a call is lent stay the caller's, who has them to read (`const`) and to write (the others) for as many elements
  * as the lengths say; they do not overlap, and none is null. A length may be 0, and any bytes may stand in a file. A file is never
