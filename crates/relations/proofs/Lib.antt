@@ -1,3 +1,4 @@
 pub mod Walks
 pub mod Rings
 pub mod Closure
+pub mod Within

@@ -1,2 +1,3 @@
 pub mod Relation
 pub mod Walk
+pub mod Within

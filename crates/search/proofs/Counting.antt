@@ -100,3 +100,33 @@ howMany-more (suc d) i f = let e : suc d + i ≡ suc (d + i) = omega arith in le
 
 pub howMany-mono : (i n : ℕ) (f : ℕ → Bool) → i ≤ n → howMany i f ≤ howMany n f
 howMany-mono i n f l = let e : n ≡ n - i + i = omega arith in rw e (howMany-more (n - i) i f)
+
+-- what passes one test passes the other, so no fewer do
+module _ (f g : ℕ → Bool) (also : (k : ℕ) → T (f k) → T (g k)) where
+  no-fewer : (b c : Bool) → (T b → T c) → {m n : ℕ} → m ≤ n → choose b 1 0 + m ≤ choose c 1 0 + n
+  unfolding choose
+  no-fewer true true h l = omega arith
+  no-fewer true false h l = absurd (h tt)
+  no-fewer false true h l = omega arith
+  no-fewer false false h l = omega arith
+
+  pub howMany-also : (n : ℕ) → howMany n f ≤ howMany n g
+  unfolding howMany
+  howMany-also zero = omega arith
+  howMany-also (suc n) = no-fewer (f n) (g n) (also n) (howMany-also n)
+
+  one-more : (b c : Bool) → ¬ T b → T c → {m n : ℕ} → m ≤ n → choose b 1 0 + m < choose c 1 0 + n
+  unfolding choose
+  one-more true c h t l = absurd (h tt)
+  one-more false true h t l = omega arith
+  one-more false false h t l = absurd t
+
+  -- and more where one passes only the other
+  pub howMany-grows : (n j : ℕ) → j < n → ¬ T (f j) → T (g j) → howMany n f < howMany n g
+  unfolding howMany
+  howMany-grows zero j l no-j yes-j = absurd (omega arith)
+  howMany-grows (suc n) j l no-j yes-j = go (ℕ-discrete j n) (howMany-grows n j)
+    where
+      go : Dec (j ≡ n) → (j < n → ¬ T (f j) → T (g j) → howMany n f < howMany n g) → choose (f n) 1 0 + howMany n f < choose (g n) 1 0 + howMany n g
+      go (yes e) ih = one-more (f n) (g n) (subst (λ (k : ℕ). ¬ T (f k)) e no-j) (subst (λ (k : ℕ). T (g k)) e yes-j) (howMany-also n)
+      go (no e) ih = let more : suc (howMany n f) ≤ howMany n g = ih (omega arith) no-j yes-j in let x = no-fewer (f n) (g n) (also n) more in omega arith

@@ -10,10 +10,12 @@ use Rattle.search.proofs.Tests.{same, both, and-is, or-is, not-is, eq-is, lt-is
 use Rattle.search.proofs.Search.{any-is}
 use Rattle.sets.specs.Set.{has}
 use Rattle.relations.specs.Relation.{Relation, union, thenMaybe, plus, ThenMaybe, Plus}
+use Rattle.relations.specs.Within.{Within}
+use Rattle.relations.proofs.Within.{LeadsTo, within-is-plus}
 use Rattle.relations.proofs.Closure.{Means, Below, union-means, thenMaybe-means, plus-means-as}
 use Rattle.dependencies.specs.History.{History, Stored, as-writer, as-reader, session-order, write-read, write-write, read-write, by-SO, by-WR, by-WW, PrefixStep, SnapshotStep, Holds}
 use Rattle.dependencies.specs.History as D
-use Rattle.dependencies.proofs.Bounds.{StoredBelow, SO-below, WR-below, WW-below, prefix-below, snapshot-below}
+use Rattle.dependencies.proofs.Bounds.{StoredBelow, SO-below, WR-below, WW-below, prefix-below, snapshot-below, prefix-from-below, snapshot-from-below}
 use Rattle.dependencies.proofs.Implications.{ReadsWritten, snapshotStep-is}
 use Rattle.dependencies.proofs.Rings.{LinkThat}
 use Rattle.store.specs.Store.{Key, VersionNumber, CommitNumber, View, Store, count, version, nextNumber}
@@ -140,3 +142,13 @@ module _ (s : Store) (h : SoundStore s) where
 
   pub snapshot-paths : Means (oneOrMore s (snapshotLinks s)) (Plus (SnapshotStep (history s)))
   snapshot-paths = plus-means-as (nextNumber s) (snapshotLinks s) snapshot-means (snapshot-below (nextNumber s) (history s) below)
+
+  -- and within as many links as there are commit numbers
+  module _ {S : ℕ → Type 0} (set : ℕ → Bool) (is-set : (a : ℕ) → T (set a) ↔ S a) where
+    pub prefix-within : (a : CommitNumber) → Within (PrefixStep (history s)) S (nextNumber s) a ↔ LeadsTo (PrefixStep (history s)) S a
+    prefix-within =
+        within-is-plus _ S (nextNumber s) (prefixLinks s) prefix-means set is-set (prefix-from-below (nextNumber s) (history s) below) (prefix-below (nextNumber s) (history s) below)
+
+    pub snapshot-within : (a : CommitNumber) → Within (SnapshotStep (history s)) S (nextNumber s) a ↔ LeadsTo (SnapshotStep (history s)) S a
+    snapshot-within =
+        within-is-plus _ S (nextNumber s) (snapshotLinks s) snapshot-means set is-set (snapshot-from-below (nextNumber s) (history s) below) (snapshot-below (nextNumber s) (history s) below)
