@@ -4,11 +4,7 @@ use Prim.Native.Nat.{ℕ, _<_}
 use mathlib.Core.Logic.{inl, inr}
 use Rattle.relations.proofs.Closure.{Below, thenMaybe-below}
 use Rattle.relations.specs.Relation.{ThenMaybe, alone, followed}
-use Rattle.dependencies.specs.History.{History, Stored, as-writer, as-reader, SO, session-order, WR, write-read, WW, write-write, RW, read-write, PlainLink, by-SO, by-WR, by-WW, PrefixStep, SnapshotStep}
-
--- every commit of the store has a number below n
-abbrev pub StoredBelow : ℕ → History → Type 0
-StoredBelow n H = (a : ℕ) → Stored H a → a < n
+use Rattle.dependencies.specs.History.{History, Stored, StoredBelow, as-writer, as-reader, SO, session-order, WR, write-read, WW, write-write, RW, read-write, PlainLink, by-SO, by-WR, by-WW, PrefixStep, SnapshotStep}
 
 module _ (n : ℕ) (H : History) (below : StoredBelow n H) where
   pub SO-below : Below n (SO H)

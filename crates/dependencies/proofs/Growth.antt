@@ -3,8 +3,7 @@
 use Prim.Native.Nat.{ℕ, _<_, _≤_}
 use mathlib.Core.Path.{_≡_}
 use mathlib.Core.Logic.{_⊎_}
-use Rattle.dependencies.specs.History.{History, Stored, Held, Holds, AllOf}
-use Rattle.dependencies.proofs.Bounds.{StoredBelow}
+use Rattle.dependencies.specs.History.{History, StoredBelow, Stored, Held, Holds, AllOf}
 use Rattle.dependencies.proofs.Implications.{ReadsWritten}
 
 -- a is t, which wrote the key; version i is later than every version of it before t

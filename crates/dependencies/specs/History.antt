@@ -17,6 +17,10 @@ pub data Stored (H : History) (a : ℕ) : Type 0 where
   as-writer : {k i : ℕ} → H .wrote a k i → Stored H a
   as-reader : {k i : ℕ} → H .read a k i → Stored H a
 
+-- every commit of the store has a number below n
+abbrev pub StoredBelow : ℕ → History → Type 0
+StoredBelow n H = (a : ℕ) → Stored H a → a < n
+
 -- ---- links
 
 -- "SO: same client, smaller session number to larger, among commits in the store (so none without operations); the opening

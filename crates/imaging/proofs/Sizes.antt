@@ -6,9 +6,9 @@ use mathlib.Core.List.{List}
 use native.Mathlib.Omega.{arith}
 use native.Mathlib.Nat.{le-of-suc-le-suc, eq-or-lt-of-le, mul-suc, mul-le-mul-left}
 use native.Mathlib.Numerals.{add-one}
-use lib.Count.{ones, ones-ones}
 use lib.ListN.{length, getD, length-append}
-use Rattle.sets.specs.Set.{below, size}
+use Rattle.sets.specs.Set.{size}
+use Rattle.sets.proofs.Counting.{full-count}
 use Rattle.endian.specs.Endian.{pieces}
 use Rattle.store.specs.Store.{Store, count}
 use Rattle.store.specs.Image.{keyBytes, image}
@@ -18,11 +18,6 @@ use Rattle.state.specs.Keeps.{KeepsKeys}
 use Rattle.imaging.specs.Parts.{keysSize, wholeSize}
 
 -- ---- by the full masks
-
--- the full mask of a key with c versions has c members
-pub full-count : (full c : ℕ) → full ≡ below c → size full ≡ c
-unfolding size
-full-count full c e = ap ones e ∙ ones-ones c
 
 pub keysSize-suc : (keys : List ℕ) (k : ℕ) → keysSize keys (suc k) ≡ keysSize keys k + (4 + 16 * size (getD keys k 0))
 unfolding keysSize

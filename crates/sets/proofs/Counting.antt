@@ -7,7 +7,7 @@ use native.Mathlib.Omega.{arith}
 use native.Mathlib.Nat.{pow-suc, div-div-eq-div-mul}
 use native.Mathlib.Decide.{ℕ-discrete}
 use lib.Bits.{or-lt}
-use lib.Count.{ones, ones-step}
+use lib.Count.{ones, ones-step, ones-ones}
 use lib.Dec.{T, eqb, eqb→eq, lit<}
 use borrow.Author.Tests.{eq-eqb, ne-eqb}
 use Rattle.search.specs.Choose.{choose}
@@ -15,7 +15,7 @@ use Rattle.search.specs.Search.{howMany}
 use Rattle.search.proofs.Choose.{choose-ind}
 use Rattle.search.proofs.Tests.{eq-test, or-left, or-right, or-cases}
 use Rattle.search.proofs.Counting.{howMany-first}
-use Rattle.sets.specs.Set.{Set, has, insert, single, size, setOf}
+use Rattle.sets.specs.Set.{Set, has, insert, single, below, size, setOf}
 use Rattle.sets.proofs.Laws.{has-none}
 use Rattle.sets.proofs.Algebra.{has-insert-is}
 
@@ -89,3 +89,8 @@ size-howMany (suc n) m small =
     let others : howMany n (λ k. has m (suc k)) ≡ howMany n (has (m / 2)) = ap (λ (f : ℕ → Bool). howMany n f) (λ i k. has-suc m k i) in
     let first = bit-of m in
     ones-step m ∙ sym (howMany-first n (has m) ∙ omega arith)
+
+-- the full mask of a key with c versions has c members
+pub full-count : (full c : ℕ) → full ≡ below c → size full ≡ c
+unfolding size
+full-count full c e = ap ones e ∙ ones-ones c

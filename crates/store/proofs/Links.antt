@@ -13,9 +13,9 @@ use Rattle.relations.specs.Relation.{Relation, union, thenMaybe, plus, ThenMayb
 use Rattle.relations.specs.Within.{Within}
 use Rattle.relations.proofs.Within.{LeadsTo, within-is-plus}
 use Rattle.relations.proofs.Closure.{Means, Below, union-means, thenMaybe-means, plus-means-as}
-use Rattle.dependencies.specs.History.{History, Stored, as-writer, as-reader, session-order, write-read, write-write, read-write, by-SO, by-WR, by-WW, PrefixStep, SnapshotStep, Holds}
+use Rattle.dependencies.specs.History.{History, Stored, StoredBelow, as-writer, as-reader, session-order, write-read, write-write, read-write, by-SO, by-WR, by-WW, PrefixStep, SnapshotStep, Holds}
 use Rattle.dependencies.specs.History as D
-use Rattle.dependencies.proofs.Bounds.{StoredBelow, SO-below, WR-below, WW-below, prefix-below, snapshot-below, prefix-from-below, snapshot-from-below}
+use Rattle.dependencies.proofs.Bounds.{SO-below, WR-below, WW-below, prefix-below, snapshot-below, prefix-from-below, snapshot-from-below}
 use Rattle.dependencies.proofs.Implications.{ReadsWritten, snapshotStep-is}
 use Rattle.dependencies.proofs.Rings.{LinkThat}
 use Rattle.store.specs.Store.{Key, VersionNumber, CommitNumber, View, Store, count, version, nextNumber}

@@ -16,7 +16,8 @@ use Rattle.store.specs.Sound.{SoundStore}
 use Rattle.store.proofs.ImageSizes.{length-key}
 use Rattle.state.specs.Keeps.{KeepsVersions, KeepsKeys}
 use Rattle.imaging.specs.Parts.{keysSize}
-use Rattle.imaging.proofs.Sizes.{keysSize-suc, key-within, length-keys, full-count}
+use Rattle.sets.proofs.Counting.{full-count}
+use Rattle.imaging.proofs.Sizes.{keysSize-suc, key-within, length-keys}
 use Rattle.imaging.proofs.write_keys.Statement.{statement}
 use Rattle.imaging.proofs.write_keys.Tie as tie
 
