@@ -1,0 +1,4 @@
+pub mod Searching
+pub mod Passing
+pub mod Gathered
+pub mod Linked

@@ -117,13 +117,14 @@ pub fn judge(
     let after = gather::held(versions, keys, fresh, 0, n);
     let absent = gather::lacking(versions, keys, after, n);
     let lost = views::masks::lost(fresh, views, base, n);
+    let wanted = tried.wanted;
     let h = Hand {
         seen: tried.seen,
         ranks,
         lost,
         session,
         absent,
-        wanted: tried.wanted,
+        wanted,
     };
     let failing = verdicts::clauses::failing(h);
     verdicts::report::note(

@@ -16,17 +16,18 @@ ghost use Rattle.growth.specs.Sessions.{UpTo, ReadUpTo};
 ghost use Rattle.state.specs.Room.{VersionsRoom, KeysRoom, CommitsRoom};
 ghost use Rattle.state.specs.Keeps.{IsSet};
 ghost use Rattle.trying.specs.Recorded.{recorded};
-ghost use Rattle.trying.specs.Tries.{LinksTo, LaterBy, StartsAt, Starts, Precedes};
+ghost use Rattle.trying.specs.Tries.{LinksTo, LaterBy, FromWrite, FromRead, StartsAt, Starts, Precedes};
 
 // Whether a later version of the key is by a member of the set.
 fn later_by(versions: &[u64], keys: &[u64], k: Key, i: VersionNumber, set: u64) -> bool
     requires { ⌜ (k .0 < maxKeys) × (i .0 < numbers) × VersionsRoom (now versions) × KeysRoom (now keys) ⌝ }
     ensures { λ r. ⌜ T r ↔ LaterBy (now (versions .entry)) (now (keys .entry)) (k .0) (i .0) set ⌝ }
 {
-    let count = sets::size(keys[k.0]);
+    let key = k.0;
+    let count = sets::size(keys[key]);
     let mut j = i.0 + 1;
     while j < count {
-        if sets::has(set, state::writer_of(versions[state::PER_KEY * k.0 + j]).0) {
+        if sets::has(set, state::writer_of(versions[state::PER_KEY * key + j]).0) {
             return true;
         }
         j = j + 1;
@@ -34,7 +35,49 @@ fn later_by(versions: &[u64], keys: &[u64], k: Key, i: VersionNumber, set: u64) 
     false
 }
 
-// Whether a link of the commit starts at this version: WR, WW or RW.
+// Whether a WR or WW link of the commit starts at this version.
+fn from_write(
+    a: CommitNumber,
+    ends: Ends,
+    versions: &[u64],
+    keys: &[u64],
+    k: Key,
+    i: VersionNumber,
+) -> bool
+    requires { ⌜ (a .0 < numbers) × (k .0 < maxKeys) × (i .0 < numbers) × VersionsRoom (now versions) × KeysRoom (now keys) ⌝ }
+    ensures { λ r. ⌜ T r ↔ FromWrite (now (versions .entry)) (now (keys .entry)) ends (a .0) (k .0) (i .0) ⌝ }
+{
+    let at = state::PER_KEY * k.0 + i.0;
+    if state::writer_of(versions[at]).0 != a.0 {
+        return false;
+    }
+    if versions[state::READERS + at] & ends.reader != 0 {
+        return true;
+    }
+    later_by(versions, keys, k, i, ends.writer)
+}
+
+// Whether an RW link of the commit starts at this version: "unless the same".
+fn from_read(
+    a: CommitNumber,
+    ends: Ends,
+    versions: &[u64],
+    keys: &[u64],
+    k: Key,
+    i: VersionNumber,
+) -> bool
+    requires { ⌜ (a .0 < numbers) × (k .0 < maxKeys) × (i .0 < numbers) × VersionsRoom (now versions) × KeysRoom (now keys) ⌝ }
+    ensures { λ r. ⌜ T r ↔ FromRead (now (versions .entry)) (now (keys .entry)) ends (a .0) (k .0) (i .0) ⌝ }
+{
+    let at = state::PER_KEY * k.0 + i.0;
+    if !sets::has(versions[state::READERS + at], a.0) {
+        return false;
+    }
+    let others = sets::without(ends.overwriter, sets::single(a.0));
+    later_by(versions, keys, k, i, others)
+}
+
+// Whether a link of the commit starts at this version.
 fn starts_at(
     a: CommitNumber,
     ends: Ends,
@@ -46,21 +89,10 @@ fn starts_at(
     requires { ⌜ (a .0 < numbers) × (k .0 < maxKeys) × (i .0 < numbers) × VersionsRoom (now versions) × KeysRoom (now keys) ⌝ }
     ensures { λ r. ⌜ T r ↔ StartsAt (now (versions .entry)) (now (keys .entry)) ends (a .0) (k .0) (i .0) ⌝ }
 {
-    let at = state::PER_KEY * k.0 + i.0;
-    let readers = versions[state::READERS + at];
-    if state::writer_of(versions[at]).0 == a.0 {
-        if readers & ends.reader != 0 {
-            return true;
-        }
-        if later_by(versions, keys, k, i, ends.writer) {
-            return true;
-        }
+    if from_write(a, ends, versions, keys, k, i) {
+        return true;
     }
-    if !sets::has(readers, a.0) {
-        return false;
-    }
-    let others = sets::without(ends.overwriter, sets::single(a.0));
-    later_by(versions, keys, k, i, others)
+    from_read(a, ends, versions, keys, k, i)
 }
 
 // Whether a link of the commit starts at some version.
@@ -104,8 +136,10 @@ fn precedes(a: CommitNumber, b: CommitNumber, set: u64, stored: u64, commits: &[
     if b.0 == 0 {
         return false;
     }
-    let x = commits[a.0];
-    let y = commits[b.0];
+    let from = a.0;
+    let to = b.0;
+    let x = commits[from];
+    let y = commits[to];
     if x % 0x1_0000_0000 != y % 0x1_0000_0000 {
         return false;
     }
@@ -211,13 +245,7 @@ pub fn past(
 }
 
 // The commit and those before it in SO.
-pub fn up_to(
-    versions: &[u64],
-    keys: &[u64],
-    commits: &[u64],
-    n: usize,
-    me: CommitNumber,
-) -> u64
+pub fn up_to(versions: &[u64], keys: &[u64], commits: &[u64], n: usize, me: CommitNumber) -> u64
     requires { ⌜ (n ≤ maxKeys) × (me .0 < numbers) × VersionsRoom (now versions) × KeysRoom (now keys) × CommitsRoom (now commits) ⌝ }
     ensures { λ r. ⌜
         (StoredBelow (me .0 + 1) (recorded (now (versions .entry)) (now (keys .entry)) (now (commits .entry)) n)

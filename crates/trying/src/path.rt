@@ -75,8 +75,5 @@ pub fn within(
     }
     let found = within(links - 1, kind, target, versions, keys, commits, n, most);
     let near = sets::union(target, found);
-    sets::union(
-        found,
-        round(kind, near, versions, keys, commits, n, most),
-    )
+    sets::union(found, round(kind, near, versions, keys, commits, n, most))
 }

@@ -1,0 +1,69 @@
+use borrow.Author.Needs.{needs}
+use Rattle.trying.proofs.links.from_read.Statement.{statement}
+use Rattle.trying.proofs.links.from_read.Tie as tie
+use Rattle.trying.proofs.links.from_read.Reads as reads
+use Rattle.trying.proofs.links.from_read.Lts as lts
+use Rattle.sets.proofs.has.Reads as has-reads
+use Rattle.sets.proofs.single.Reads as single-reads
+use Rattle.sets.proofs.without.Reads as without-reads
+use Rattle.trying.proofs.links.later_by.Reads as later-by-reads
+
+-- src/links.rt:72:14
+mul-at : tie.Need-mul-at
+mul-at c = search needs
+
+-- src/links.rt:72:14
+add-at : tie.Need-add-at
+add-at c = search needs
+
+-- src/links.rt:73:28
+add-has : tie.Need-add-has
+add-has c = search needs
+
+-- src/links.rt:73:19
+mul-has : tie.Need-mul-has
+mul-has c = search needs
+
+-- src/links.rt:73:19
+shared-slice-read-has : tie.Need-shared-slice-read-has
+shared-slice-read-has c = search needs
+
+-- src/links.rt:73:9
+has-requires : tie.Need-has-requires
+has-requires c κs = search needs
+
+-- src/links.rt:74:9
+returns : tie.Need-returns
+returns c = ?
+
+-- src/links.rt:76:49
+single-requires : tie.Need-single-requires
+single-requires c κs = search needs
+
+-- src/links.rt:76:9
+without-requires : tie.Need-without-requires
+without-requires c κs = search needs
+
+-- src/links.rt:77:5
+later-by-requires : tie.Need-later-by-requires
+later-by-requires c κs = search needs
+
+-- src/links.rt:61:1
+returns-2 : tie.Need-returns-2
+returns-2 c = ?
+
+pub from-read-spec : {M : Type 1} → statement M
+from-read-spec =
+    tie.close
+    (tie.spec
+    mul-at
+    add-at
+    add-has
+    mul-has
+    shared-slice-read-has
+    has-requires
+    returns
+    single-requires
+    without-requires
+    later-by-requires
+    returns-2)
