@@ -1,3 +1,7 @@
+use Rattle.trying.specs.Tries.{LaterBy}
+use Rattle.views.proofs.Tests.{not-taken, not-left}
+use Rattle.sets.specs.Set.{Set, without}
+use mathlib.Core.Path.{sym, ap, _∙_, subst}
 use borrow.Author.Needs.{needs}
 use Rattle.trying.proofs.links.from_read.Statement.{statement}
 use Rattle.trying.proofs.links.from_read.Tie as tie
@@ -34,7 +38,7 @@ has-requires c κs = search needs
 
 -- src/links.rt:74:9
 returns : tie.Need-returns
-returns c = ?
+returns c = (λ t. absurd t, λ x. absurd (not-taken (c .if1 .taken) (c .before .has .ensures) (x .0)))
 
 -- src/links.rt:76:49
 single-requires : tie.Need-single-requires
@@ -50,7 +54,12 @@ later-by-requires c κs = search needs
 
 -- src/links.rt:61:1
 returns-2 : tie.Need-returns-2
-returns-2 c = ?
+returns-2 c = 
+    let a = c .before .before .before .before .before .before .before .before .before .before .args in
+    let e = c .before .without .ensures ∙ ap (λ (m : Set). without (a .ends .overwriter) m) (c .before .before .single .ensures) in (
+      λ t. (not-left (c .before .before .before .if1 .left) (c .before .before .before .before .has .ensures), subst (λ (m : Set). LaterBy (a .versions .now) (a .keys .now) (a .k .0) (a .i .0) m) e (c .later-by .ensures .0 t)),
+      λ x. c .later-by .ensures .1 (subst (λ (m : Set). LaterBy (a .versions .now) (a .keys .now) (a .k .0) (a .i .0) m) (sym e) (x .1)),
+    )
 
 pub from-read-spec : {M : Type 1} → statement M
 from-read-spec =
