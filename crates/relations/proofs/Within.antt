@@ -1,11 +1,11 @@
 -- Within n links among n numbers is "+": whoever leads to a member of a set by one or more links does so within as many links as there are numbers. Each round
 -- of links adds a number or is the last to matter, and there are only n to add. For any links and any set, so once for clauses 6 and 7. Assumes nothing.
 use Prim.Native.Nat.{ℕ, zero, suc, _+_, _-_, _≤_, _<_}
-use mathlib.Core.Path.{_≡_, subst}
-use mathlib.Core.Bool.{Bool, _&&_, _||_, not}
+use mathlib.Core.Path.{_≡_, refl, subst}
+use mathlib.Core.Bool.{Bool, true, false, _&&_, _||_, not}
 use mathlib.Core.Logic.{_⊎_, inl, inr, _↔_}
 use native.Mathlib.Omega.{arith}
-use lib.Dec.{T}
+use lib.Dec.{T, eqb}
 use Rattle.search.specs.Search.{any, howMany}
 use Rattle.search.proofs.Tests.{same, both, and-is, or-is, not-is, stable, T?}
 use Rattle.search.proofs.Search.{any-is}
@@ -133,3 +133,19 @@ module _ (R : ℕ → ℕ → Type 0) (S : ℕ → Type 0) where
       where
         all : (n : ℕ) → Within R S n a → (j : ℕ) × (j ≤ m) × Settled j → Within R S m a
         all n x (j, l, h) = let e : m - j + j ≡ m = omega arith in subst (λ (k : ℕ). Within R S k a) e (more-links (m - j) j a (settled j h n a x))
+
+-- Links and members that are contained in others lead no further.
+module _ (R Q : ℕ → ℕ → Type 0) (S P : ℕ → Type 0) (link : (a b : ℕ) → R a b → Q a b) (member : (a : ℕ) → S a → P a) where
+  pub within-map : (n a : ℕ) → Within R S n a → Within Q P n a
+  within-map zero a x = absurd (within-none R S a x)
+  within-map (suc n) a x = within-more Q P n a .1 (go (within-more R S n a .0 x) (within-map n))
+    where
+      go : Within R S n a ⊎ ((b : ℕ) × R a b × (S b ⊎ Within R S n b)) → ((b : ℕ) → Within R S n b → Within Q P n b) → Within Q P n a ⊎ ((b : ℕ) × Q a b × (P b ⊎ Within Q P n b))
+      go (inl y) ih = inl (ih a y)
+      go (inr (b, l, inl s)) ih = inr (b, link a b l, inl (member b s))
+      go (inr (b, l, inr y)) ih = inr (b, link a b l, inr (ih b y))
+
+-- Fewer links than numbers are not enough: two numbers with a link to each other, and the way from one of them back to itself.
+pub both-links : (within 2 (λ a b. not (eqb a b)) (eqb 0) 2 0 ≡ true) × (within 2 (λ a b. not (eqb a b)) (eqb 0) 1 0 ≡ false)
+unfolding within any
+both-links = (refl, refl)

@@ -1,12 +1,8 @@
 -- Histories that agree on who wrote and who read what, and on the sessions of their commits, have the same links. Assumes nothing.
-use Prim.Native.Nat.{ℕ, zero, suc, _<_}
+use Prim.Native.Nat.{ℕ, _<_}
 use mathlib.Core.Path.{_≡_, sym, _∙_, subst₂}
-use mathlib.Core.Logic.{_⊎_, inl, inr}
-use native.Mathlib.Omega.{arith}
-use Rattle.relations.specs.Relation.{ThenMaybe, alone, followed}
-use Rattle.relations.specs.Within.{Within}
+use mathlib.Core.Logic.{inl, inr}
 use Rattle.relations.proofs.Walks.{thenMaybe-map}
-use Rattle.relations.proofs.Within.{within-more, within-none}
 use Rattle.dependencies.specs.History.{History, Stored, as-writer, as-reader, SO, session-order, WR, write-read, WW, write-write, RW, read-write, PlainLink, by-SO, by-WR, by-WW, PrefixStep, SnapshotStep}
 use Rattle.growth.specs.Sessions.{UpTo, ReadUpTo}
 
@@ -54,14 +50,3 @@ module _ {H H′ : History} (g : Agrees H H′) where
 
   pub read-up-to-agrees : (a t : ℕ) → ReadUpTo H a t → ReadUpTo H′ a t
   read-up-to-agrees a t (r, x, l) = (r, up-to-agrees t r x, WR-agrees a r l)
-
--- within so many links, where links and members are contained in others
-module _ (R Q : ℕ → ℕ → Type 0) (S P : ℕ → Type 0) (link : (a b : ℕ) → R a b → Q a b) (member : (a : ℕ) → S a → P a) where
-  pub within-map : (n a : ℕ) → Within R S n a → Within Q P n a
-  within-map zero a x = absurd (within-none R S a x)
-  within-map (suc n) a x = within-more Q P n a .1 (go (within-more R S n a .0 x) (within-map n))
-    where
-      go : Within R S n a ⊎ ((b : ℕ) × R a b × (S b ⊎ Within R S n b)) → ((b : ℕ) → Within R S n b → Within Q P n b) → Within Q P n a ⊎ ((b : ℕ) × Q a b × (P b ⊎ Within Q P n b))
-      go (inl y) ih = inl (ih a y)
-      go (inr (b, l, inl s)) ih = inr (b, link a b l, inl (member b s))
-      go (inr (b, l, inr y)) ih = inr (b, link a b l, inr (ih b y))

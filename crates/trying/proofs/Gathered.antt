@@ -1,7 +1,7 @@
 -- Sets of commits by their versions. Assumes nothing.
 use Prim.Native.Nat.{ℕ, _+_, _*_, _^_, _≤_, _<_}
-use mathlib.Core.Path.{_≡_, refl, sym, subst}
-use mathlib.Core.Logic.{_⊎_, inl, inr, _↔_}
+use mathlib.Core.Path.{_≡_, sym, subst}
+use mathlib.Core.Logic.{_⊎_, inl, inr}
 use mathlib.Core.List.{List}
 use native.Mathlib.Omega.{arith}
 use lib.Dec.{T}
@@ -13,7 +13,7 @@ use Rattle.sets.proofs.Laws.{has-none, has-lt, has-below, size-word}
 use Rattle.sets.proofs.Algebra.{both-is}
 use Rattle.store.specs.Limits.{maxKeys}
 use Rattle.state.specs.Keeps.{IsSet}
-use Rattle.state.proofs.Sets.{isSet-as, isSet-none, isSet-insert, isSet-without}
+use Rattle.state.proofs.Sets.{isSet-as, isSet-insert, isSet-without}
 use Rattle.trying.specs.Recorded.{versionsOf, Exists, writerAt, readersAt, StoredIn, HeldIn, WroteOne}
 use Rattle.trying.specs.Tries.{ChosenAt, Chosen}
 

@@ -21,13 +21,11 @@ use Rattle.growth.proofs.Made.{keys-after, number-after, client-kept, client-ne
 use Rattle.state.specs.declared.Found.{Found}
 use Rattle.state.specs.Keeps.{IsSet, KeepsCommits, KeepsMasks, KeepsOperations}
 use Rattle.state.specs.Answers.{placeOf}
-use Rattle.state.specs.Rows.{RowAt}
 use Rattle.views.specs.Rules.{StoreAndView}
 use Rattle.views.proofs.Rows.{masks-row}
 use Rattle.verdicts.specs.declared.Wanted.{Wanted}
-use Rattle.verdicts.specs.declared.Hand.{Hand}
 use Rattle.verdicts.specs.Wants.{Wants}
-use Rattle.verdicts.specs.AtHand.{AtHand, Judging}
+use Rattle.verdicts.specs.AtHand.{Judging}
 use Rattle.verdicts.proofs.Searches.{lost-is}
 use Rattle.trying.specs.Recorded.{HeldIn, WroteOne, recorded}
 use Rattle.trying.proofs.Kept.{holds-kept, lacking-kept, told-below, up-to-kept}

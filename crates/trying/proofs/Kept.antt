@@ -1,7 +1,7 @@
 -- The arrays that keep a store tell its history, so what was tried on them is so of the store. Assumes nothing.
-use Prim.Native.Nat.{ℕ, _+_, _*_, _^_, _%_, _/_, _≤_, _<_}
-use mathlib.Core.Path.{_≡_, refl, sym, ap, _∙_, subst}
-use mathlib.Core.Logic.{_⊎_, inl, inr, _↔_}
+use Prim.Native.Nat.{ℕ, _+_, _*_, _≤_, _<_}
+use mathlib.Core.Path.{_≡_, sym, _∙_, subst}
+use mathlib.Core.Logic.{_↔_}
 use mathlib.Core.List.{List}
 use native.Mathlib.Omega.{arith}
 use lib.Dec.{T}
@@ -12,10 +12,10 @@ use Rattle.sets.proofs.Laws.{has-below}
 use Rattle.sets.proofs.Counting.{full-count}
 use Rattle.relations.specs.Relation.{Plus}
 use Rattle.relations.specs.Within.{Within}
+use Rattle.relations.proofs.Within.{within-map}
 use Rattle.dependencies.specs.History.{History, Stored, StoredBelow, as-writer, as-reader, SO, PrefixStep, SnapshotStep, Holds}
 use Rattle.store.specs.Limits.{maxKeys}
-use Rattle.store.specs.Store.{View, Store, Commit, count, version, nextNumber}
-use Rattle.store.specs.Update.{writes}
+use Rattle.store.specs.Store.{View, Store, Commit, count, nextNumber}
 use Rattle.store.specs.History.{Wrote, Read, history, held}
 use Rattle.store.specs.Image.{ClientsFit}
 use Rattle.store.proofs.Links.{stored-below, prefix-within, snapshot-within}
@@ -32,7 +32,7 @@ use Rattle.views.specs.Rules.{StoreAndView}
 use Rattle.views.proofs.Words.{writer-in}
 use Rattle.trying.specs.Recorded.{versionsOf, Exists, writerAt, readersAt, HeldIn, WroteOne, clientIn, sessionIn, recorded}
 use Rattle.trying.specs.Tries.{StepOf}
-use Rattle.trying.proofs.Agreeing.{Agrees, stored-agrees, SO-agrees, prefix-agrees, snapshot-agrees, up-to-agrees, read-up-to-agrees, within-map}
+use Rattle.trying.proofs.Agreeing.{Agrees, SO-agrees, prefix-agrees, snapshot-agrees, up-to-agrees, read-up-to-agrees}
 
 module _ (s : Store) (u : View) (n : ℕ) (versions keys masks : List ℕ) (base : ℕ) (h : StoreAndView s u n versions keys masks base) where
   -- a version of the store is at its place of the arrays

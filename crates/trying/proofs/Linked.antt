@@ -1,8 +1,8 @@
 -- Links to members of sets. Assumes nothing.
-use Prim.Native.Nat.{ℕ, _+_, _≤_, _<_}
-use mathlib.Core.Path.{_≡_, refl, sym, ap, subst, _∙_}
+use Prim.Native.Nat.{ℕ, _+_, _<_}
+use mathlib.Core.Path.{_≡_, refl, sym, ap, subst}
 use mathlib.Core.Bool.{Bool}
-use mathlib.Core.Logic.{_⊎_, inl, inr, _↔_, _≢_}
+use mathlib.Core.Logic.{_⊎_, inl, inr, _↔_}
 use mathlib.Core.List.{List}
 use native.Mathlib.Omega.{arith}
 use native.Mathlib.Decide.{ℕ-discrete}
@@ -11,13 +11,13 @@ use Rattle.search.proofs.Tests.{T?, same, both}
 use Rattle.sets.specs.Set.{Set, has, insert, single, without, union}
 use Rattle.sets.proofs.Laws.{single-has, single-only, has-none}
 use Rattle.sets.proofs.Algebra.{without-is}
-use Rattle.dependencies.specs.History.{History, Stored, StoredBelow, as-writer, as-reader, SO, session-order, WR, write-read, WW, write-write, RW, read-write}
+use Rattle.dependencies.specs.History.{History, Stored, StoredBelow, as-writer, as-reader, SO, session-order, WR, write-read, write-write, read-write}
 use Rattle.growth.specs.Sessions.{UpTo, ReadUpTo}
 use Rattle.state.specs.Keeps.{IsSet}
 use Rattle.state.proofs.Sets.{isSet-as, isSet-none, isSet-union, isSet-insert}
 use Rattle.trying.specs.declared.Ends.{Ends}
-use Rattle.trying.specs.Recorded.{versionsOf, Exists, writerAt, readersAt, StoredIn, recorded}
-use Rattle.trying.specs.Tries.{LinksTo, to-session, to-reader, to-writer, to-overwriter, LaterBy, StartsAt, Starts, Precedes}
+use Rattle.trying.specs.Recorded.{writerAt, StoredIn, recorded}
+use Rattle.trying.specs.Tries.{LinksTo, to-session, to-reader, to-writer, to-overwriter, Starts, Precedes}
 
 -- ---- a commit tried
 

@@ -1,6 +1,6 @@
 -- One link of clause 6 or 7 to a member of a set, and within one link more. Assumes nothing.
 use Prim.Native.Nat.{ℕ, zero, suc, _-_, _<_}
-use mathlib.Core.Path.{_≡_, refl, sym, subst}
+use mathlib.Core.Path.{_≡_, refl, subst}
 use mathlib.Core.Logic.{_⊎_, inl, inr, ⊎-elim, _↔_}
 use native.Mathlib.Omega.{arith}
 use lib.Dec.{T}
@@ -10,10 +10,9 @@ use Rattle.sets.proofs.Laws.{has-none}
 use Rattle.relations.specs.Relation.{ThenMaybe, alone, followed}
 use Rattle.relations.specs.Within.{Within}
 use Rattle.relations.proofs.Within.{within-more, within-none}
-use Rattle.dependencies.specs.History.{History, StoredBelow, SO, WR, WW, RW, PlainLink, by-SO, by-WR, by-WW}
+use Rattle.dependencies.specs.History.{History, StoredBelow, SO, WR, RW, PlainLink, by-SO, by-WR, by-WW}
 use Rattle.state.specs.Keeps.{IsSet}
 use Rattle.state.proofs.Sets.{isSet-as, isSet-none, isSet-union}
-use Rattle.trying.specs.declared.Ends.{Ends}
 use Rattle.trying.specs.Tries.{LinksTo, to-session, to-reader, to-writer, to-overwriter, StepOf, StepsTo}
 use Rattle.trying.proofs.Linked.{all-tried}
 

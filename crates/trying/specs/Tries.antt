@@ -34,16 +34,16 @@ abbrev pub LaterBy : List ℕ → List ℕ → Key → VersionNumber → Set →
 LaterBy versions keys k i set = (j : VersionNumber) × (i < j) × (j < versionsOf keys k) × T (has set (writerAt versions k j))
 
 -- a link of a that starts at version i of key k: WR or WW, where a wrote it
-abbrev pub FromWrite : List ℕ → List ℕ → Ends → CommitNumber → Key → VersionNumber → Type 0
-FromWrite versions keys ends a k i =
+abbrev pub StartsByWrite : List ℕ → List ℕ → Ends → CommitNumber → Key → VersionNumber → Type 0
+StartsByWrite versions keys ends a k i =
     (writerAt versions k i ≡ a) × (((b : CommitNumber) × T (has (readersAt versions k i) b) × T (has (ends .reader) b)) ⊎ LaterBy versions keys k i (ends .writer))
 
 -- RW, where a read it, "unless the same"
-abbrev pub FromRead : List ℕ → List ℕ → Ends → CommitNumber → Key → VersionNumber → Type 0
-FromRead versions keys ends a k i = T (has (readersAt versions k i) a) × LaterBy versions keys k i (without (ends .overwriter) (single a))
+abbrev pub StartsByRead : List ℕ → List ℕ → Ends → CommitNumber → Key → VersionNumber → Type 0
+StartsByRead versions keys ends a k i = T (has (readersAt versions k i) a) × LaterBy versions keys k i (without (ends .overwriter) (single a))
 
 abbrev pub StartsAt : List ℕ → List ℕ → Ends → CommitNumber → Key → VersionNumber → Type 0
-StartsAt versions keys ends a k i = FromWrite versions keys ends a k i ⊎ FromRead versions keys ends a k i
+StartsAt versions keys ends a k i = StartsByWrite versions keys ends a k i ⊎ StartsByRead versions keys ends a k i
 
 abbrev pub Starts : List ℕ → List ℕ → Ends → ℕ → CommitNumber → Type 0
 Starts versions keys ends n a = (k : Key) × (i : VersionNumber) × Exists keys n k i × StartsAt versions keys ends a k i

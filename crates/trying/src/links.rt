@@ -16,7 +16,7 @@ ghost use Rattle.growth.specs.Sessions.{UpTo, ReadUpTo};
 ghost use Rattle.state.specs.Room.{VersionsRoom, KeysRoom, CommitsRoom};
 ghost use Rattle.state.specs.Keeps.{IsSet};
 ghost use Rattle.trying.specs.Recorded.{recorded};
-ghost use Rattle.trying.specs.Tries.{LinksTo, LaterBy, FromWrite, FromRead, StartsAt, Starts, Precedes};
+ghost use Rattle.trying.specs.Tries.{LinksTo, LaterBy, StartsByWrite, StartsByRead, StartsAt, Starts, Precedes};
 
 // Whether a later version of the key is by a member of the set.
 fn later_by(versions: &[u64], keys: &[u64], k: Key, i: VersionNumber, set: u64) -> bool
@@ -36,7 +36,7 @@ fn later_by(versions: &[u64], keys: &[u64], k: Key, i: VersionNumber, set: u64) 
 }
 
 // Whether a WR or WW link of the commit starts at this version.
-fn from_write(
+fn starts_by_write(
     a: CommitNumber,
     ends: Ends,
     versions: &[u64],
@@ -45,7 +45,7 @@ fn from_write(
     i: VersionNumber,
 ) -> bool
     requires { ⌜ (a .0 < numbers) × (k .0 < maxKeys) × (i .0 < numbers) × VersionsRoom (now versions) × KeysRoom (now keys) ⌝ }
-    ensures { λ r. ⌜ T r ↔ FromWrite (now (versions .entry)) (now (keys .entry)) ends (a .0) (k .0) (i .0) ⌝ }
+    ensures { λ r. ⌜ T r ↔ StartsByWrite (now (versions .entry)) (now (keys .entry)) ends (a .0) (k .0) (i .0) ⌝ }
 {
     let at = state::PER_KEY * k.0 + i.0;
     if state::writer_of(versions[at]).0 != a.0 {
@@ -58,7 +58,7 @@ fn from_write(
 }
 
 // Whether an RW link of the commit starts at this version: "unless the same".
-fn from_read(
+fn starts_by_read(
     a: CommitNumber,
     ends: Ends,
     versions: &[u64],
@@ -67,7 +67,7 @@ fn from_read(
     i: VersionNumber,
 ) -> bool
     requires { ⌜ (a .0 < numbers) × (k .0 < maxKeys) × (i .0 < numbers) × VersionsRoom (now versions) × KeysRoom (now keys) ⌝ }
-    ensures { λ r. ⌜ T r ↔ FromRead (now (versions .entry)) (now (keys .entry)) ends (a .0) (k .0) (i .0) ⌝ }
+    ensures { λ r. ⌜ T r ↔ StartsByRead (now (versions .entry)) (now (keys .entry)) ends (a .0) (k .0) (i .0) ⌝ }
 {
     let at = state::PER_KEY * k.0 + i.0;
     if !sets::has(versions[state::READERS + at], a.0) {
@@ -89,10 +89,10 @@ fn starts_at(
     requires { ⌜ (a .0 < numbers) × (k .0 < maxKeys) × (i .0 < numbers) × VersionsRoom (now versions) × KeysRoom (now keys) ⌝ }
     ensures { λ r. ⌜ T r ↔ StartsAt (now (versions .entry)) (now (keys .entry)) ends (a .0) (k .0) (i .0) ⌝ }
 {
-    if from_write(a, ends, versions, keys, k, i) {
+    if starts_by_write(a, ends, versions, keys, k, i) {
         return true;
     }
-    from_read(a, ends, versions, keys, k, i)
+    starts_by_read(a, ends, versions, keys, k, i)
 }
 
 // Whether a link of the commit starts at some version.

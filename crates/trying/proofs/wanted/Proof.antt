@@ -1,44 +1,31 @@
-use Rattle.trying.proofs.Kept.{holds-kept, written-kept, lacking-kept, told-below, before-kept, read-kept, prefix-kept, snapshot-kept}
-use Rattle.views.specs.Rules.{StoreAndView}
+-- `trying::wanted` meets its contract. Assumes nothing.
 use native.Mathlib.Omega.{arith}
 use borrow.Author.Needs.{needs}
+use Rattle.views.specs.Rules.{StoreAndView}
+use Rattle.trying.proofs.Kept.{holds-kept, written-kept, lacking-kept, told-below, before-kept, read-kept, prefix-kept, snapshot-kept}
 use Rattle.trying.proofs.wanted.Statement.{statement}
 use Rattle.trying.proofs.wanted.Tie as tie
-use Rattle.trying.proofs.wanted.Reads as reads
-use Rattle.trying.proofs.wanted.Lts as lts
-use Rattle.trying.proofs.gather.held.Reads as held-reads
-use Rattle.trying.proofs.gather.lacking.Reads as lacking-reads
-use Rattle.trying.proofs.gather.writers.Reads as writers-reads
-use Rattle.trying.proofs.links.past.Reads as past-reads
-use Rattle.trying.proofs.path.within.Reads as within-reads
 
--- src/lib.rt:73:9
 held-requires : tie.Need-held-requires
 held-requires c κs = search needs
 
--- src/lib.rt:74:9
 lacking-requires : tie.Need-lacking-requires
 lacking-requires c κs = search needs
 
--- src/lib.rt:75:9
 writers-requires : tie.Need-writers-requires
 writers-requires c κs = search needs
 
--- src/lib.rt:76:9
 past-requires : tie.Need-past-requires
 past-requires c κs = search needs
 
--- src/lib.rt:77:9
 within-requires : tie.Need-within-requires
 within-requires c κs = search needs
 
--- src/lib.rt:78:9
 within-requires-2 : tie.Need-within-requires-2
 within-requires-2 c κs = search needs
 
--- src/lib.rt:56:1
 returns : tie.Need-returns
-returns c = 
+returns c =
     let a = c .before .before .before .before .before .before .before .before .before .before .args in
     let seen = c .before .before .before .before .before .held .result in
     λ s u commit values keys-are sound number fit in-versions in-keys in-commits row operations.

@@ -1,90 +1,67 @@
-use Rattle.trying.proofs.Gathered.{chosen-version}
-use Rattle.views.proofs.Tests.{not-taken, not-left}
-use Rattle.state.proofs.Sets.{isSet-none}
+-- `trying::gather::chosen_at` meets its contract. Assumes nothing.
 use borrow.Author.Needs.{needs}
+use Rattle.state.proofs.Sets.{isSet-none}
+use Rattle.views.proofs.Tests.{not-taken, not-left}
+use Rattle.trying.proofs.Gathered.{chosen-version}
 use Rattle.trying.proofs.gather.chosen_at.Statement.{statement}
 use Rattle.trying.proofs.gather.chosen_at.Tie as tie
-use Rattle.trying.proofs.gather.chosen_at.Reads as reads
-use Rattle.trying.proofs.gather.chosen_at.Lts as lts
-use Rattle.sets.proofs.has.Reads as has-reads
-use Rattle.sets.proofs.insert.Reads as insert-reads
-use Rattle.state.proofs.writer_of.Reads as writer-of-reads
 
--- src/gather.rt:30:25
 add-has : tie.Need-add-has
 add-has c = search needs
 
--- src/gather.rt:30:19
 mul-has : tie.Need-mul-has
 mul-has c = search needs
 
--- src/gather.rt:30:19
 shared-slice-read-has : tie.Need-shared-slice-read-has
 shared-slice-read-has c = search needs
 
--- src/gather.rt:30:9
 has-requires : tie.Need-has-requires
 has-requires c κs = search needs
 
--- src/gather.rt:31:9
 returns : tie.Need-returns
 returns c = isSet-none (λ t x. not-taken (c .if1 .taken) (c .before .has .ensures) (x .0 .0))
 
--- src/gather.rt:33:26
 mul-has-2 : tie.Need-mul-has-2
 mul-has-2 c = search needs
 
--- src/gather.rt:33:26
 add-has-2 : tie.Need-add-has-2
 add-has-2 c = search needs
 
--- src/gather.rt:33:9
 has-requires-2 : tie.Need-has-requires-2
 has-requires-2 c κs = search needs
 
--- src/gather.rt:34:9
 returns-2 : tie.Need-returns-2
 returns-2 c = isSet-none (λ t x. not-taken (c .if2 .taken) (c .before .has2 .ensures) (x .0 .1))
 
--- src/gather.rt:36:14
 mul-at : tie.Need-mul-at
 mul-at c = search needs
 
--- src/gather.rt:36:14
 add-at : tie.Need-add-at
 add-at c = search needs
 
--- src/gather.rt:38:18
 add-insert : tie.Need-add-insert
 add-insert c = search needs
 
--- src/gather.rt:38:9
 mul-insert : tie.Need-mul-insert
 mul-insert c = search needs
 
--- src/gather.rt:38:9
 shared-slice-read-insert : tie.Need-shared-slice-read-insert
 shared-slice-read-insert c = search needs
 
--- src/gather.rt:39:26
 mul-writer-of : tie.Need-mul-writer-of
 mul-writer-of c = search needs
 
--- src/gather.rt:39:26
 shared-slice-read-writer-of : tie.Need-shared-slice-read-writer-of
 shared-slice-read-writer-of c = search needs
 
--- src/gather.rt:39:9
 writer-of-requires : tie.Need-writer-of-requires
 writer-of-requires c κs = search needs
 
--- src/gather.rt:37:5
 insert-requires : tie.Need-insert-requires
 insert-requires c κs = search needs
 
--- src/gather.rt:18:1
 returns-3 : tie.Need-returns-3
-returns-3 c = 
+returns-3 c =
     let a = c .before .before .before .before .before .before .before .before .before .before .before .before .before .before .before .args in
     chosen-version (a .versions .now) (a .masks .now) (a .base) (a .ranks) (a .readers) (a .k .0) (a .i .0) (not-left (c .before .before .before .before .before .before .before .before .before .if1 .left) (c .before .before .before .before .before .before .before .before .before .before .has .ensures)) (not-left (c .before .before .before .before .before .before .if2 .left) (c .before .before .before .before .before .before .before .has2 .ensures)) (c .before .writer-of .ensures .0) (c .insert .ensures)
 

@@ -1,20 +1,15 @@
-use Rattle.trying.proofs.Gathered.{stored-chosen}
+-- `trying::gather::stored` meets its contract. Assumes nothing.
 use borrow.Author.Needs.{needs}
+use Rattle.trying.proofs.Gathered.{stored-chosen}
 use Rattle.trying.proofs.gather.stored.Statement.{statement}
 use Rattle.trying.proofs.gather.stored.Tie as tie
-use Rattle.trying.proofs.gather.stored.Reads as reads
-use Rattle.trying.proofs.gather.stored.Lts as lts
-use Rattle.trying.proofs.gather.chosen.Reads as chosen-reads
 
--- src/gather.rt:111:28
 slice-aggregate-chosen : tie.Need-slice-aggregate-chosen
 slice-aggregate-chosen c = search needs
 
--- src/gather.rt:111:5
 chosen-requires : tie.Need-chosen-requires
 chosen-requires c κs = search needs
 
--- src/gather.rt:106:1
 returns : tie.Need-returns
 returns c = let a = c .before .before .before .before .args in stored-chosen (a .versions .now) (a .keys .now) (a .n) (c .before .before .before .before .pre .0) (λ i. c .before .before .shared-slice-known2 .given i .fits) (λ i. c .before .before .before .shared-slice-known .given i .fits) (c .chosen .result) (c .chosen .ensures)
 

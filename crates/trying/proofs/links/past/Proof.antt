@@ -1,28 +1,21 @@
-use Rattle.trying.proofs.Linked.{before-is, read-is}
-use Rattle.trying.specs.Recorded.{recorded}
+-- `trying::links::past` meets its contract. Assumes nothing.
 use borrow.Author.Needs.{needs}
+use Rattle.trying.specs.Recorded.{recorded}
+use Rattle.trying.proofs.Linked.{before-is, read-is}
 use Rattle.trying.proofs.links.past.Statement.{statement}
 use Rattle.trying.proofs.links.past.Tie as tie
-use Rattle.trying.proofs.links.past.Reads as reads
-use Rattle.trying.proofs.links.past.Lts as lts
-use Rattle.sets.proofs.union.Reads as union-reads
-use Rattle.trying.proofs.links.tries.Reads as tries-reads
 
--- src/links.rt:236:9
 tries-requires : tie.Need-tries-requires
 tries-requires c κs = search needs
 
--- src/links.rt:239:17
 union-requires : tie.Need-union-requires
 union-requires c κs = search needs
 
--- src/links.rt:243:9
 tries-requires-2 : tie.Need-tries-requires-2
 tries-requires-2 c κs = search needs
 
--- src/links.rt:215:1
 returns : tie.Need-returns
-returns c = 
+returns c =
     let a = c .before .before .before .before .before .before .args in
     let before = c .before .before .tries in
     λ below. (before-is (recorded (a .versions .now) (a .keys .now) (a .commits .now) (a .n)) (a .most) below (a .set) (before .result) (before .ensures), read-is (recorded (a .versions .now) (a .keys .now) (a .commits .now) (a .n)) (a .most) below (a .set) (before .result) (before .ensures) (c .before .union .result) (c .tries2 .result) (c .before .union .ensures) (c .tries2 .ensures))

@@ -1,20 +1,20 @@
-use Rattle.trying.proofs.Stepped.{none-within, one-more-within}
-use Rattle.trying.specs.Tries.{StepOf}
-use Rattle.trying.specs.Recorded.{recorded}
-use Rattle.state.specs.Keeps.{IsSet}
-use Rattle.relations.specs.Within.{Within}
-use Rattle.sets.specs.Set.{has}
+-- The proof of the cycle of calls {within}: nobody is within no links, and one link more is one round more. The measure is the number of links. Assumes nothing.
+use Prim.Native.Nat.{ℕ, _<_}
+use mathlib.Core.Path.{refl, sym, subst}
 use lib.Dec.{T}
 use borrow.Author.Needs.{needs}
-use native.Mathlib.Omega.{arith}
-use mathlib.Core.Path.{refl, sym, subst}
-use Prim.Native.Nat.{ℕ, _<_}
 use borrow.Fn.Kinds.{In}
 use borrow.Fn.PlainCycle.{Measures, is, falls, and}
+use Rattle.sets.specs.Set.{has}
+use Rattle.sets.proofs.union.Reads as union-reads
+use Rattle.relations.specs.Within.{Within}
+use Rattle.state.specs.Keeps.{IsSet}
+use Rattle.trying.specs.Tries.{StepOf}
+use Rattle.trying.specs.Recorded.{recorded}
+use Rattle.trying.proofs.Stepped.{none-within, one-more-within}
 use Rattle.trying.proofs.path.within.Reads as within
 use Rattle.trying.proofs.path.within.Kinds as within-kinds
 use Rattle.trying.proofs.path.+within.Lts-within as within-lts
-use Rattle.sets.proofs.union.Reads as union-reads
 use Rattle.trying.proofs.path.round.Reads as round-reads
 use Rattle.trying.proofs.path.+within.{statement}
 use Rattle.trying.proofs.path.+within.Tie.{close}
@@ -28,7 +28,6 @@ within-at t = and 3 within-kinds.ps (is 3 within-kinds.ps μ-within t) within.Pr
 abbrev within-below : ℕ → In 3 within-kinds.ps
 within-below t = and 3 within-kinds.ps (falls 3 within-kinds.ps _<_ μ-within t) within.Pre
 
--- src/path.rt:74:9
 within-returns : (t : ℕ) → within-lts.Need-returns (
   within-below t,
   within.Post,
@@ -37,11 +36,10 @@ within-returns : (t : ℕ) → within-lts.Need-returns (
   round-reads.Asked,
   round-reads.Learnt,
 ) (within-at t) within.Post
-within-returns t c = 
+within-returns t c =
     let a = c .before .before .before .before .args in
     λ below. subst (λ (l : ℕ). IsSet 0 (Within (StepOf (a .kind) (recorded (a .versions .now) (a .keys .now) (a .commits .now) (a .n))) (λ q. T (has (a .target) q)) l)) (sym (c .if1 .taken)) (none-within (StepOf (a .kind) (recorded (a .versions .now) (a .keys .now) (a .commits .now) (a .n))) (a .target))
 
--- src/path.rt:76:24
 within-sub-within : (t : ℕ) → within-lts.Need-sub-within (
   within-below t,
   within.Post,
@@ -52,7 +50,6 @@ within-sub-within : (t : ℕ) → within-lts.Need-sub-within (
 ) (within-at t) within.Post
 within-sub-within t c = search needs
 
--- src/path.rt:76:9
 within-within-requires : (t : ℕ) → within-lts.Need-within-requires (
   within-below t,
   within.Post,
@@ -63,7 +60,6 @@ within-within-requires : (t : ℕ) → within-lts.Need-within-requires (
 ) (within-at t) within.Post
 within-within-requires t c κs = search needs
 
--- src/path.rt:77:9
 within-union-requires : (t : ℕ) → within-lts.Need-union-requires (
   within-below t,
   within.Post,
@@ -74,7 +70,6 @@ within-union-requires : (t : ℕ) → within-lts.Need-union-requires (
 ) (within-at t) within.Post
 within-union-requires t c κs = search needs
 
--- src/path.rt:78:24
 within-round-requires : (t : ℕ) → within-lts.Need-round-requires (
   within-below t,
   within.Post,
@@ -85,7 +80,6 @@ within-round-requires : (t : ℕ) → within-lts.Need-round-requires (
 ) (within-at t) within.Post
 within-round-requires t c κs = search needs
 
--- src/path.rt:78:5
 within-union-requires-2 : (t : ℕ) → within-lts.Need-union-requires-2 (
   within-below t,
   within.Post,
@@ -96,7 +90,6 @@ within-union-requires-2 : (t : ℕ) → within-lts.Need-union-requires-2 (
 ) (within-at t) within.Post
 within-union-requires-2 t c κs = search needs
 
--- src/path.rt:57:1
 within-returns-2 : (t : ℕ) → within-lts.Need-returns-2 (
   within-below t,
   within.Post,
@@ -105,7 +98,7 @@ within-returns-2 : (t : ℕ) → within-lts.Need-returns-2 (
   round-reads.Asked,
   round-reads.Learnt,
 ) (within-at t) within.Post
-within-returns-2 t c = 
+within-returns-2 t c =
     let a = c .before .before .before .before .before .before .before .before .args in
     λ below. one-more-within (StepOf (a .kind) (recorded (a .versions .now) (a .keys .now) (a .commits .now) (a .n))) (a .target) (a .links) _ (c .before .before .before .within .result) (c .before .before .union .result) (c .before .round .result) (c .before .before .before .before .if1 .left) refl (c .before .before .before .within .ensures below) (c .before .before .union .ensures) (c .before .round .ensures below) (c .union2 .ensures)
 
