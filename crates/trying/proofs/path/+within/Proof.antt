@@ -1,6 +1,7 @@
 -- The proof of the cycle of calls {within}: nobody is within no links, and one link more is one round more. The measure is the number of links. Assumes nothing.
 use Prim.Native.Nat.{ℕ, _<_}
-use mathlib.Core.Path.{refl, sym, subst}
+use mathlib.Core.Path.{_≡_, refl, sym, subst}
+use native.Mathlib.Omega.{arith}
 use lib.Dec.{T}
 use borrow.Author.Needs.{needs}
 use borrow.Fn.Kinds.{In}
@@ -38,7 +39,8 @@ within-returns : (t : ℕ) → within-lts.Need-returns (
 ) (within-at t) within.Post
 within-returns t c =
     let a = c .before .before .before .before .args in
-    λ below. subst (λ (l : ℕ). IsSet 0 (Within (StepOf (a .kind) (recorded (a .versions .now) (a .keys .now) (a .commits .now) (a .n))) (λ q. T (has (a .target) q)) l)) (sym (c .if1 .taken)) (none-within (StepOf (a .kind) (recorded (a .versions .now) (a .keys .now) (a .commits .now) (a .n))) (a .target))
+    let none : a .links ≡ 0 = omega arith in
+    λ below. subst (λ (l : ℕ). IsSet 0 (Within (StepOf (a .kind) (recorded (a .versions .now) (a .keys .now) (a .commits .now) (a .n))) (λ q. T (has (a .target) q)) l)) (sym none) (none-within (StepOf (a .kind) (recorded (a .versions .now) (a .keys .now) (a .commits .now) (a .n))) (a .target))
 
 within-sub-within : (t : ℕ) → within-lts.Need-sub-within (
   within-below t,
@@ -100,7 +102,7 @@ within-returns-2 : (t : ℕ) → within-lts.Need-returns-2 (
 ) (within-at t) within.Post
 within-returns-2 t c =
     let a = c .before .before .before .before .before .before .before .before .args in
-    λ below. one-more-within (StepOf (a .kind) (recorded (a .versions .now) (a .keys .now) (a .commits .now) (a .n))) (a .target) (a .links) _ (c .before .before .before .within .result) (c .before .before .union .result) (c .before .round .result) (c .before .before .before .before .if1 .left) refl (c .before .before .before .within .ensures below) (c .before .before .union .ensures) (c .before .round .ensures below) (c .union2 .ensures)
+    λ below. one-more-within (StepOf (a .kind) (recorded (a .versions .now) (a .keys .now) (a .commits .now) (a .n))) (a .target) (a .links) _ (c .before .before .before .within .result) (c .before .before .union .result) (c .before .round .result) (λ none. omega arith) refl (c .before .before .before .within .ensures below) (c .before .before .union .ensures) (c .before .round .ensures below) (c .union2 .ensures)
 
 pub +within-spec : {M : Type 1} → statement M
 +within-spec = close μ-within λ t. within-lts.spec (
