@@ -12,7 +12,7 @@ use Rattle.sets.proofs.Laws.{has-below}
 use Rattle.sets.proofs.Counting.{full-count}
 use Rattle.relations.specs.Relation.{Plus}
 use Rattle.relations.specs.Within.{Within}
-use Rattle.relations.proofs.Within.{within-map}
+use Rattle.relations.proofs.Within.{LeadsTo, within-map}
 use Rattle.dependencies.specs.History.{History, Stored, StoredBelow, as-writer, as-reader, SO, PrefixStep, SnapshotStep, Holds}
 use Rattle.store.specs.Limits.{maxKeys}
 use Rattle.store.specs.Store.{View, Store, Commit, count, nextNumber}
@@ -141,23 +141,20 @@ module _ (s : Store) (u : View) (n : ℕ) (versions keys masks : List ℕ) (base
       abbrev Seen : ℕ → Type 0
       Seen t = T (has seen t)
 
-      swap : {R : ℕ → ℕ → Type 0} (a : ℕ) → ((t : ℕ) × Plus R a t × Holds (history s) (held u) t) ↔ LeadsToHeld s u (Plus R) a
-      swap a = (λ (t, p, x). (t, x, p), λ (t, x, p). (t, p, x))
+      path-kept : (R Q : ℕ → ℕ → Type 0) → ((a b : ℕ) → R a b → Q a b) → ((a b : ℕ) → Q a b → R a b)
+          → ((a : ℕ) → Within Q (Holds (history s) (held u)) (nextNumber s) a ↔ LeadsTo Q (Holds (history s) (held u)) a)
+          → (links : ℕ) → nextNumber s ≡ links → (r : Set) → IsSet r (Within R Seen links) → IsSet r (LeadsToHeld s u (Plus Q))
+      path-kept R Q f g enough links e r x =
+          isSet-as r (λ a. both (again a) (both (enough a) (λ (t, p, y). (t, y, p), λ (t, y, p). (t, p, y)))) (subst (λ (m : ℕ). IsSet r (Within R Seen m)) (sym e) x)
+        where
+          again : (a : ℕ) → Within R Seen (nextNumber s) a ↔ Within Q (Holds (history s) (held u)) (nextNumber s) a
+          again a = (
+            within-map R Q Seen (Holds (history s) (held u)) f (λ t. is t .0) (nextNumber s) a,
+            within-map Q R (Holds (history s) (held u)) Seen g (λ t. is t .1) (nextNumber s) a,
+          )
 
       pub prefix-kept : (links : ℕ) → nextNumber s ≡ links → (r : Set) → IsSet r (Within (StepOf 0 H) Seen links) → IsSet r (LeadsToHeld s u (Plus (Step 0 s)))
-      prefix-kept links e r x = isSet-as r (λ a. both (again a) (both (prefix-within s (h .sound) (has seen) is a) (swap {R = PrefixStep (history s)} a))) (subst (λ (m : ℕ). IsSet r (Within (StepOf 0 H) Seen m)) (sym e) x)
-        where
-          again : (a : ℕ) → Within (PrefixStep H) Seen (nextNumber s) a ↔ Within (PrefixStep (history s)) (Holds (history s) (held u)) (nextNumber s) a
-          again a = (
-            within-map (PrefixStep H) (PrefixStep (history s)) Seen (Holds (history s) (held u)) (prefix-agrees told) (λ t. is t .0) (nextNumber s) a,
-            within-map (PrefixStep (history s)) (PrefixStep H) (Holds (history s) (held u)) Seen (prefix-agrees tells) (λ t. is t .1) (nextNumber s) a,
-          )
+      prefix-kept = path-kept (PrefixStep H) (PrefixStep (history s)) (prefix-agrees told) (prefix-agrees tells) (prefix-within s (h .sound) (has seen) is)
 
       pub snapshot-kept : (links : ℕ) → nextNumber s ≡ links → (r : Set) → IsSet r (Within (StepOf 1 H) Seen links) → IsSet r (LeadsToHeld s u (Plus (Step 1 s)))
-      snapshot-kept links e r x = isSet-as r (λ a. both (again a) (both (snapshot-within s (h .sound) (has seen) is a) (swap {R = SnapshotStep (history s)} a))) (subst (λ (m : ℕ). IsSet r (Within (StepOf 1 H) Seen m)) (sym e) x)
-        where
-          again : (a : ℕ) → Within (SnapshotStep H) Seen (nextNumber s) a ↔ Within (SnapshotStep (history s)) (Holds (history s) (held u)) (nextNumber s) a
-          again a = (
-            within-map (SnapshotStep H) (SnapshotStep (history s)) Seen (Holds (history s) (held u)) (snapshot-agrees told) (λ t. is t .0) (nextNumber s) a,
-            within-map (SnapshotStep (history s)) (SnapshotStep H) (Holds (history s) (held u)) Seen (snapshot-agrees tells) (λ t. is t .1) (nextNumber s) a,
-          )
+      snapshot-kept = path-kept (SnapshotStep H) (SnapshotStep (history s)) (snapshot-agrees told) (snapshot-agrees tells) (snapshot-within s (h .sound) (has seen) is)
