@@ -10,9 +10,9 @@ use Rattle.search.specs.Search.{any, howMany}
 use Rattle.search.proofs.Tests.{same, both, and-is, or-is, not-is, stable, T?}
 use Rattle.search.proofs.Search.{any-is}
 use Rattle.search.proofs.Counting.{howMany-le, howMany-grows}
-use Rattle.relations.specs.Relation.{Relation, Plus, one, more}
+use Rattle.relations.specs.Relation.{Relation, plus, Plus, one, more}
 use Rattle.relations.specs.Within.{Within, within}
-use Rattle.relations.proofs.Closure.{Means, Below}
+use Rattle.relations.proofs.Closure.{Means, Below, plus-means-as}
 
 -- one or more links lead from a to a member of the set
 abbrev pub LeadsTo : (ℕ → ℕ → Type 0) → (ℕ → Type 0) → ℕ → Type 0
@@ -133,6 +133,12 @@ module _ (R : ℕ → ℕ → Type 0) (S : ℕ → Type 0) where
       where
         all : (n : ℕ) → Within R S n a → (j : ℕ) × (j ≤ m) × Settled j → Within R S m a
         all n x (j, l, h) = let e : m - j + j ≡ m = omega arith in subst (λ (k : ℕ). Within R S k a) e (more-links (m - j) j a (settled j h n a x))
+
+    -- and the set grown link by link is what the closed rows lead to
+    pub within-is-closure : (a : ℕ) → T (within m r set m a) ↔ ((t : ℕ) × T (plus m r a t) × T (set t))
+    within-is-closure a =
+        let closed = plus-means-as m r is-r below in
+        both (within-means m a) (both (within-is-plus a) (λ (t, p, s). (t, closed a t .1 p, is-set t .1 s), λ (t, p, s). (t, closed a t .0 p, is-set t .0 s)))
 
 -- Links and members that are contained in others lead no further.
 module _ (R Q : ℕ → ℕ → Type 0) (S P : ℕ → Type 0) (link : (a b : ℕ) → R a b → Q a b) (member : (a : ℕ) → S a → P a) where
