@@ -35,6 +35,7 @@ pub fn contenders() -> Vec<Box<dyn Contender>> {
         answer: Answer::Refused(nothing),
         replay: Replay::Refused(nothing),
         bare: Bare::Refused(nothing),
+        image: vec![0; image::LONGEST],
     });
     [ordinary].into_iter().chain(proved()).collect()
 }
@@ -45,6 +46,8 @@ struct Ordinary {
     answer: Answer,
     replay: Replay,
     bare: Bare,
+    /// For the call that writes none.
+    image: Vec<u8>,
 }
 
 impl Contender for Ordinary {
@@ -62,6 +65,8 @@ impl Contender for Ordinary {
         };
         match call {
             Call::Judge => self.answer = self.judge.judge(file, buffer),
+            // It has one engine.
+            Call::Plain => self.answer = self.judge.judge(file, &mut self.image),
             Call::Replay => self.replay = self.judge.replay(file, buffer),
             Call::Short => self.replay = self.judge.convert(Edition::Short, file, buffer),
             Call::Long => self.replay = self.judge.convert(Edition::Long, file, buffer),
@@ -77,7 +82,7 @@ impl Contender for Ordinary {
 
     fn words(&self, call: Asked) -> Vec<u64> {
         let mut words = match call {
-            Asked::Of(Call::Judge | Call::Port) => judge_words(&self.answer.into()),
+            Asked::Of(Call::Judge | Call::Port | Call::Plain) => judge_words(&self.answer.into()),
             Asked::Of(_) => replay_words(&self.replay.into()),
             Asked::Image => shown_words(&self.bare.into()),
         };
@@ -110,6 +115,14 @@ pub const TAKING: Timed = Timed {
     name: "taking",
     room: 0,
     code: 15,
+    ..JUDGE
+};
+
+/// The plain second engine, which writes no image.
+pub const PLAIN: Timed = Timed {
+    name: "plain",
+    call: Asked::Of(Call::Plain),
+    room: 0,
     ..JUDGE
 };
 

@@ -3,15 +3,16 @@
 //! keys and over 32; what of that goes to the arrays; then files that come in
 //! pieces, and the replay, beside the judge; then both editions of the traces, and
 //! their images judged by themselves. With `--short` it leaves out how the times
-//! grow, with `--editions` all but the editions, and with `--images` all but the
-//! images.
+//! grow, with `--editions` all but the editions, with `--images` all but the
+//! images, and with `--plain` it times the plain second engine beside the judge, on
+//! few traces, and nothing else.
 
 use std::hint::black_box;
 use std::time::Instant;
 
 use bench::contender::{
-    check, check_images, contenders, Contender, Timed, IMAGE, JUDGE, LARGE_PIECES, LONG, REPLAY,
-    SHORT, SMALL_PIECES, TAKING,
+    check, check_images, contenders, Contender, Timed, IMAGE, JUDGE, LARGE_PIECES, LONG, PLAIN,
+    REPLAY, SHORT, SMALL_PIECES, TAKING,
 };
 use bench::form::COMMITS;
 use bench::traces::{asking, describe, images, in_edition, timed, Style, Trace, NUMBER};
@@ -21,6 +22,9 @@ use model::Edition;
 /// Numbers of keys of the traces with a table of their own.
 const KEYS: [usize; 2] = [16, 32];
 const ROUNDS: usize = 21;
+
+/// The plain engine is slow.
+const PLAIN_TRACES: usize = 12;
 
 /// The times of one contender in microseconds: a row for each round, in it a
 /// time for each trace.
@@ -399,6 +403,32 @@ fn print_images(contenders: &mut [Box<dyn Contender>], keys: usize) {
     }
 }
 
+/// The plain second engine beside the judge, by commits and keys. The ordinary judge
+/// has one engine, and its row is that of its judge.
+fn print_plain(contenders: &mut [Box<dyn Contender>]) {
+    let sizes = [(8, 8), (16, 16), (32, 16), (COMMITS, 16), (COMMITS, 32)];
+    for (commits, keys) in sizes {
+        let mut traces = timed(commits, keys);
+        traces.truncate(PLAIN_TRACES);
+        for timed in [&JUDGE, &PLAIN] {
+            check(contenders, timed, &traces);
+        }
+        println!(
+            "\nplain, {commits} commits, {keys} keys: {}",
+            describe(&traces)
+        );
+        let tasks = [(&JUDGE, &traces[..]), (&PLAIN, &traces[..])];
+        let times = time_each(contenders, tasks);
+        let all: Vec<usize> = (0..traces.len()).collect();
+        print_head(contenders);
+        for (timed, times) in [JUDGE, PLAIN].iter().zip(&times) {
+            for way in Way::ALL {
+                print_row(timed.name, way, &means(times, way, &all));
+            }
+        }
+    }
+}
+
 /// How the time for an image grows.
 fn print_growth_of_images(contenders: &mut [Box<dyn Contender>]) {
     println!("\nimages by commits and keys, {NUMBER} each");
@@ -491,6 +521,10 @@ fn main() {
         for keys in KEYS {
             print_editions(&mut contenders, keys);
         }
+        return;
+    }
+    if asked("--plain") {
+        print_plain(&mut contenders);
         return;
     }
     if asked("--images") {

@@ -44,6 +44,7 @@ impl Contender for Proved {
         };
         match call {
             model::Call::Judge => consistency::judge_words(file, buffer, words),
+            model::Call::Plain => consistency::plain_words(file, words),
             model::Call::Replay => consistency::replay_words(file, buffer, words),
             model::Call::Short => consistency::short_words(file, buffer, words),
             model::Call::Long => consistency::long_words(file, buffer, words),

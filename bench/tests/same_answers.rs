@@ -34,6 +34,13 @@ fn compare(
             assert_eq!(answer, model::answer(outcome, &mut due), "{name}");
             answer.code()
         }
+        // It has one engine.
+        Call::Plain => {
+            let mut image = vec![0; Call::Judge.longest()];
+            let answer = Answer::from(judge.judge(bytes, &mut image));
+            assert_eq!(answer, model::answer(outcome, &mut image), "{name}");
+            answer.code()
+        }
         Call::Port => {
             let mut session = Session::open();
             for piece in bytes.chunks(1 + room % 99) {
@@ -78,9 +85,10 @@ fn compare_all(judge: &mut Judge, bytes: &[u8], name: &str) -> u8 {
             let needed = written.len();
             let exact = compare(judge, call, bytes, &outcome, needed, name);
             assert_eq!([code, exact], [0; 2], "{name}: exact buffer");
-            let short = compare(judge, call, bytes, &outcome, needed - 1, name);
-            let due = call.own_codes().last();
-            assert_eq!(Some(&short), due, "{name}: short buffer");
+            if let Some(due) = call.own_codes().last() {
+                let short = compare(judge, call, bytes, &outcome, needed - 1, name);
+                assert_eq!(short, *due, "{name}: short buffer");
+            }
         }
         code
     });

@@ -73,6 +73,7 @@ extern "C" {
  *     call          | codes
  *     --------------|-------------------------------------
  *     judge_file    | 1 to 14, then 15
+ *     plain_file    | 1 to 14
  *     replay_file   | 1 to 14, then 16, then 17
  *     short_file    | 1 to 14, then 22, then 17
  *     long_file     | 1 to 14, then 22, then 17
@@ -144,6 +145,14 @@ enum {
     CONSISTENCY_SI = 36,
     CONSISTENCY_SER = 40
 };
+
+/* Judges the trace file as `judge_file` does, by a second engine that tries every commit as the next link: the same words for every file, where the
+ * image buffer of `judge_file` is long enough. No image is written, though its length is told. It is slow, and made for the acceptance trial: what the
+ * one says of a file, the other must say too. */
+uint64_t plain_file(const uint8_t *file, size_t file_length,
+                    uint64_t *words, size_t words_length);
+
+#define CONSISTENCY_PLAIN_STACK 98304
 
 /* Writes the replay of the trace in the first `file_length` bytes at `file`, if SER accepts the trace: a trace file with the same commits,
  * each after a shift of its client to all that there is, and left with a view of all that there is then. `judge_file` gives the replay the

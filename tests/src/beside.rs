@@ -13,7 +13,7 @@ use crate::{
 };
 use consistency::{
     close_session, judge, judge_image, judge_image_words, judge_words, long_words, open_session,
-    push_piece, replay, replay_words, report_session, short_words, Key, Refusal, Session,
+    plain_words, push_piece, replay, replay_words, report_session, short_words, Key, Refusal, Session,
     SessionRecord, Verdicts, VersionNumber, CONVERSION_WORDS, IMAGE_WORDS, JUDGE_WORDS,
     LONGEST_FILE, REPLAY_WORDS,
 };
@@ -32,7 +32,13 @@ pub fn in_words(call: Call) -> (InWords, usize) {
         Call::Short => (short_words, CONVERSION_WORDS),
         Call::Long => (long_words, CONVERSION_WORDS),
         Call::Port => (port_words, JUDGE_WORDS),
+        Call::Plain => (plain_in_words, JUDGE_WORDS),
     }
+}
+
+/// The plain engine, which is lent no buffer.
+fn plain_in_words(file: &[u8], _: &mut [u8], words: &mut [u64]) -> u64 {
+    plain_words(file, words)
 }
 
 /// A file in pieces to a session, cut otherwise for each length of the buffer.
@@ -146,6 +152,12 @@ pub fn compare(call: Call, name: &str, file: &[u8], outcome: &Outcome, length: u
         Call::Port => {
             let due = answer(outcome, &mut pattern(length));
             assert_eq!(port(file, &mut bytes), told_answer(&due), "{name}");
+        }
+        Call::Plain => {
+            let mut image = vec![0; Call::Judge.longest()];
+            let due = judge(file, &mut image);
+            assert_eq!(due, told_answer(&answer(outcome, &mut image)), "{name}");
+            assert_eq!(consistency::plain(file), due, "{name}: the engines differ");
         }
     }
     assert!(bytes == due_bytes, "{name}: other bytes");

@@ -1,5 +1,6 @@
 //! The calls side by side. Each is lent a trace file and one buffer, and either
-//! refuses or writes something to the start of the buffer. The calls of a session
+//! refuses or writes something to the start of the buffer. The plain engine is
+//! lent no buffer: it writes nothing. The calls of a session
 //! are one here: it is opened, all pieces are pushed, it is closed.
 
 use crate::buffer::{LONG, LONG_FILE};
@@ -19,15 +20,18 @@ pub enum Call {
     Long,
     /// Ten verdicts, and the image, of a file that comes in pieces.
     Port,
+    /// Ten verdicts, by the plain second engine.
+    Plain,
 }
 
 impl Call {
-    pub const ALL: [Call; 5] = [
+    pub const ALL: [Call; 6] = [
         Call::Judge,
         Call::Replay,
         Call::Short,
         Call::Long,
         Call::Port,
+        Call::Plain,
     ];
 
     pub fn name(self) -> &'static str {
@@ -37,6 +41,7 @@ impl Call {
             Call::Short => "short",
             Call::Long => "long",
             Call::Port => "port",
+            Call::Plain => "plain",
         }
     }
 
@@ -48,6 +53,7 @@ impl Call {
             Call::Judge | Call::Port => &[15],
             Call::Replay => &[16, 17],
             Call::Short | Call::Long => &[22, 17],
+            Call::Plain => &[],
         }
     }
 
@@ -57,6 +63,7 @@ impl Call {
             Call::Judge | Call::Port => image::LONGEST,
             Call::Replay => replay::LONGEST,
             Call::Short | Call::Long => Store::MAX_BYTES,
+            Call::Plain => 0,
         }
     }
 
@@ -65,6 +72,7 @@ impl Call {
         match self {
             Call::Judge | Call::Port => LONG,
             Call::Replay | Call::Short | Call::Long => LONG_FILE,
+            Call::Plain => 0,
         }
     }
 
@@ -77,6 +85,7 @@ impl Call {
             Call::Replay => taken.replay.as_deref().ok(),
             Call::Short => taken.short.as_deref().ok(),
             Call::Long => taken.long.as_deref().ok(),
+            Call::Plain => Some(&[]),
         }
     }
 
@@ -89,7 +98,7 @@ impl Call {
                 let former = image::former_len(image);
                 (former < image.len()).then_some(former)
             }
-            Call::Replay | Call::Short | Call::Long => None,
+            Call::Replay | Call::Short | Call::Long | Call::Plain => None,
         }
     }
 
@@ -97,6 +106,9 @@ impl Call {
     /// is needed, each from 8 bytes too few to 8 more than enough, those around
     /// what was enough before, and a long one.
     pub fn lengths(self, outcome: &Outcome) -> Vec<usize> {
+        if self == Call::Plain {
+            return vec![0];
+        }
         let mut lengths = vec![self.long(), 0];
         if let Some(written) = self.written(outcome) {
             let needed = written.len();
@@ -117,6 +129,7 @@ impl Call {
             Call::Replay => replay_words(&replayed(outcome, buffer)),
             Call::Short => replay_words(&written_in(Edition::Short, outcome, buffer)),
             Call::Long => replay_words(&written_in(Edition::Long, outcome, buffer)),
+            Call::Plain => judge_words(&answer(outcome, &mut vec![0; image::LONGEST])),
         }
     }
 }

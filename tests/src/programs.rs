@@ -21,18 +21,23 @@ pub enum Program {
 }
 
 impl Program {
-    pub const ALL: [Program; 6] = [
+    pub const ALL: [Program; 7] = [
         Program::Of(Call::Judge),
         Program::Of(Call::Replay),
         Program::Of(Call::Short),
         Program::Of(Call::Long),
         Program::Of(Call::Port),
+        Program::Of(Call::Plain),
         Program::Image,
     ];
 
     /// Those that print a report, a refusal too, on standard output; the others
     /// write a file there, or tell a refusal on standard error.
-    pub const REPORTING: [Program; 2] = [Program::Of(Call::Judge), Program::Of(Call::Port)];
+    pub const REPORTING: [Program; 3] = [
+        Program::Of(Call::Judge),
+        Program::Of(Call::Port),
+        Program::Of(Call::Plain),
+    ];
 
     pub fn name(self) -> &'static str {
         match self {
@@ -49,7 +54,7 @@ impl Program {
     /// What it has to say of a file that comes to this.
     pub fn due(self, outcome: &Outcome) -> Said {
         match self {
-            Program::Of(Call::Judge | Call::Port) => reported(outcome),
+            Program::Of(Call::Judge | Call::Port | Call::Plain) => reported(outcome),
             Program::Of(Call::Replay) => written(outcome, |taken| &taken.replay),
             Program::Of(Call::Short) => written(outcome, |taken| &taken.short),
             Program::Of(Call::Long) => written(outcome, |taken| &taken.long),

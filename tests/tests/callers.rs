@@ -278,6 +278,7 @@ fn the_numbers_of_the_header() {
         (Call::Replay, consistency::LONGEST_REPLAY),
         (Call::Short, consistency::LONGEST_FILE),
         (Call::Long, consistency::LONGEST_FILE),
+        (Call::Plain, 0),
     ] {
         assert_eq!(call.longest(), longest, "{call:?}");
     }
@@ -297,6 +298,7 @@ fn the_numbers_of_the_header() {
     defines("REFUSAL_WORDS", consistency::REFUSAL_WORDS);
     defines("JUDGE_WORDS", consistency::JUDGE_WORDS);
     defines("JUDGE_STACK", consistency::JUDGE_STACK);
+    defines("PLAIN_STACK", consistency::PLAIN_STACK);
     defines("REPLAY_WORDS", consistency::REPLAY_WORDS);
     defines("REPLAY_STACK", consistency::REPLAY_STACK);
     defines("CONVERSION_WORDS", consistency::CONVERSION_WORDS);
@@ -368,6 +370,7 @@ fn the_table_of_calls() {
     };
     let codes = [
         of_files(Call::Judge),
+        of_files(Call::Plain),
         of_files(Call::Replay),
         of_files(Call::Short),
         of_files(Call::Long),
@@ -375,12 +378,13 @@ fn the_table_of_calls() {
         CLOSED.to_string(),
         format!("{CLOSED}, then 17, then {}", of_files(Call::Port)),
     ];
-    let due = |names: [String; 7]| -> Vec<Vec<String>> {
+    let due = |names: [String; 8]| -> Vec<Vec<String>> {
         let rows = names.into_iter().zip(codes.clone());
         rows.map(|(name, codes)| vec![name, codes]).collect()
     };
     let functions = [
         "judge_file",
+        "plain_file",
         "replay_file",
         "short_file",
         "long_file",
@@ -471,6 +475,7 @@ fn the_stack_of_each_call() {
     let [traces, images] = [listed(all_sorts()), listed(images())];
     for (call, promised) in [
         ("judge_file", consistency::JUDGE_STACK),
+        ("plain_file", consistency::PLAIN_STACK),
         ("replay_file", consistency::REPLAY_STACK),
         ("short_file", consistency::CONVERSION_STACK),
         ("long_file", consistency::CONVERSION_STACK),
@@ -514,6 +519,9 @@ fn the_stack_of_each_call_in_rust() {
     };
     on_a_thread(consistency::JUDGE_STACK, |file, image, _| {
         consistency::judge(file, image);
+    });
+    on_a_thread(consistency::PLAIN_STACK, |file, _, _| {
+        consistency::plain(file);
     });
     on_a_thread(consistency::REPLAY_STACK, |file, buffer, _| {
         consistency::replay(file, buffer);

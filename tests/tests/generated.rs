@@ -189,6 +189,7 @@ fn buffers(seed: u64, call: Call, outcome: &Outcome) -> Vec<(usize, u8)> {
     let short = match call {
         Call::Judge | Call::Port => 15,
         Call::Replay | Call::Short | Call::Long => 17,
+        Call::Plain => return vec![(0, 0)],
     };
     let needed = call.written(outcome).expect("it is written").len();
     let mut buffers = vec![

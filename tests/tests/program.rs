@@ -1,5 +1,5 @@
 //! The programs, as `rt check` builds them: what each has to say of the bytes on
-//! its standard input is the model's. `judge` and `port` print the report;
+//! its standard input is the model's. `judge`, `port` and `plain` print the report;
 //! `replay`, `short`, `long` and `image` write a file, or tell the refusal on
 //! standard error and write nothing.
 

@@ -12,6 +12,13 @@ extern "C" {
         words_length: usize,
     ) -> u64;
 
+    pub fn plain_file(
+        file: *const u8,
+        file_length: usize,
+        words: *mut u64,
+        words_length: usize,
+    ) -> u64;
+
     pub fn replay_file(
         file: *const u8,
         file_length: usize,

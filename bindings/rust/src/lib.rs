@@ -18,6 +18,7 @@ mod archive;
 mod bare;
 mod converting;
 mod judging;
+mod plain;
 mod refusal;
 mod replaying;
 mod report;
@@ -28,6 +29,7 @@ pub use converting::{
     long, long_words, short, short_words, Conversion, CONVERSION_STACK, CONVERSION_WORDS,
 };
 pub use judging::{judge, judge_words, Answer, Verdict, Verdicts, JUDGE_STACK, JUDGE_WORDS};
+pub use plain::{plain, plain_words, PLAIN_STACK};
 pub use refusal::{Key, Refusal, VersionNumber, NO_ROOM, REFUSAL_WORDS};
 pub use replaying::{replay, replay_words, Replay, LONGEST_REPLAY, REPLAY_STACK, REPLAY_WORDS};
 pub use report::{report, LONGEST_REPORT, REPORT_STACK};

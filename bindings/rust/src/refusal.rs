@@ -41,6 +41,7 @@ pub struct VersionNumber(pub usize);
 /// | call | codes |
 /// |---|---|
 /// | [`judge`](crate::judge) | 1 to 14, then 15 |
+/// | [`plain`](crate::plain) | 1 to 14 |
 /// | [`replay`](crate::replay) | 1 to 14, then 16, then 17 |
 /// | [`short`](crate::short) | 1 to 14, then 22, then 17 |
 /// | [`long`](crate::long) | 1 to 14, then 22, then 17 |

@@ -17,6 +17,7 @@ ghost use Rattle.answer.specs.Written.{replayAnswer, replayAfter, ReplayFits, R
 ghost use Rattle.answer.specs.Converted.{convertAnswer, convertAfter, WrittenSame};
 ghost use Rattle.trace.specs.Edition as Editions;
 ghost use Rattle.judging.specs.Answers.{toldAnswer};
+ghost use Rattle.rejudging.specs.Plain.{plainAnswer, EnginesAgree};
 ghost use Rattle.converting.specs.Answers.{editionOf};
 ghost use Rattle.arranging.specs.Answer.{shownAnswer, shownAfter};
 ghost use Rattle.arranging.specs.Claim.{ImageClaim};
@@ -50,6 +51,23 @@ pub extern "C" fn judge_file(file: &[u8], image: &mut [u8], out: &mut [u64]) -> 
         return words::NO_ROOM;
     }
     words::put_answer(out, judging::judge(file, image))
+}
+
+// Judges a trace file by the plain second engine (02, E10): the words that `judge_file` writes where its image buffer is long enough, for every file; no image is
+// written, and code 15 is not used. Where there is no room for the words nothing is judged.
+#[no_mangle]
+pub extern "C" fn plain_file(file: &[u8], out: &mut [u64]) -> u64
+    ensures room { λ r. ⌜ (length (now (out .entry)) < answerLength → (r ≡ noRoom) × (now (out .exit) ≡ now (out .entry))) ⌝ }
+    ensures answer { λ r. ⌜
+        (answerLength ≤ length (now (out .entry))
+        → (r ≡ codeOf (plainAnswer (now (file .entry)))) × (now (out .exit) ≡ putAt (now (out .entry)) 0 (answerWords (plainAnswer (now (file .entry))))))
+        ⌝ }
+    ensures agree { λ _. ⌜ EnginesAgree (now (file .entry)) ⌝ }
+{
+    if out.len() < words::ANSWER {
+        return words::NO_ROOM;
+    }
+    words::put_answer(out, rejudging::plain(file))
 }
 
 // Writes the replay of a trace file (02, E1) as a file at the start of `buffer`: its commits in their order, each made from a full view and left with one. Or

@@ -1,6 +1,7 @@
 // The call that judges a trace file: it is lent the file in one slice and an image buffer in another, and gives one answer.
 mod ending; // ending.rt: the answer for a trace that is taken
 
+use run::Engine;
 use state::Refusal;
 use store::Store;
 use taking::Taking;
@@ -36,7 +37,14 @@ pub fn judge(file: &[u8], buffer: &mut [u8]) -> Answer
     let mut keys = s.keys;
     let mut commits = s.commits;
     let mut views = [1u64; state::VIEWS];
-    match taking::take_file(file, &mut versions, &mut keys, &mut commits, &mut views) {
+    match taking::take_file(
+        file,
+        &mut versions,
+        &mut keys,
+        &mut commits,
+        &mut views,
+        Engine::Fast,
+    ) {
         Taking::Refused(refusal) => Answer::Refused(refusal),
         Taking::Taken {
             header,

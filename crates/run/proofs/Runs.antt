@@ -96,6 +96,7 @@ module _ {file : List ℕ} {n clients records : ℕ} {rs : List Entry} where
       ordered = s .along .ordered;
       keys-are = s .along .keys-are;
       few = s .along .few;
+      clients-fit = s .along .clients-fit;
       counted = s .counted;
       keeps = s .keeps;
       failures = s .failures;

@@ -15,6 +15,12 @@ ghost use Rattle.state.specs.Room.{Room, ValuesRoom, FreshRoom};
 ghost use Rattle.verdicts.specs.Verdicts.{VerdictsRoom};
 ghost use Rattle.run.specs.Ran.{Starts, RanSays};
 
+// How a commit is judged: by the sets that are kept along the run, or by trying every commit as the next link (02, E10). The answers are the same.
+pub enum Engine {
+    Fast,
+    Plain,
+}
+
 // What the run of a trace comes to: all records are done, with so many commits, or one is refused.
 pub enum Ran {
     Done { commits: usize },
@@ -37,6 +43,7 @@ pub fn run_all(
     verdicts: &mut [u64],
     values: &mut [u64],
     fresh: &mut [u64],
+    engine: Engine,
 ) -> Ran
     requires { ⌜ (1 ≤ n) × (n ≤ maxKeys) × (clients ≤ maxClients) × (minBytes ≤ length (now file)) × (length (now file) ≤ maxBytes) × (records < 2 ^ 16) ⌝ }
     requires { ⌜ ValuesRoom (now values) × FreshRoom (now fresh) × VerdictsRoom (now verdicts) ⌝ }
@@ -71,6 +78,7 @@ pub fn run_all(
             values,
             fresh,
             n,
+            engine,
         );
         if let Outcome::Refused(refusal) = outcome {
             return Ran::Refused(refusal);

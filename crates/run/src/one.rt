@@ -1,10 +1,12 @@
 // One record of a run: a view shift or a commit, on the arrays that keep the store.
+use crate::Engine;
 use commits::record::CommitAt;
 use commits::record::commit_to;
 use shifts::Outcome;
 use shifts::shift::shift_to;
 use state::CommitNumber;
 use trace::records::Record;
+use trial::commit_plainly;
 ghost use Prim.Native.Nat.{ℕ, _≤_};
 ghost use mathlib.Core.Option.{Option};
 ghost use Rattle.store.specs.Limits.{maxKeys};
@@ -34,6 +36,7 @@ pub fn one_record(
     values: &mut [u64],
     fresh: &mut [u64],
     n: usize,
+    engine: Engine,
 ) -> Outcome
     requires { ⌜ (1 ≤ n) × (n ≤ maxKeys) × Readable (now file) n made r ⌝ }
     requires { ⌜ ValuesRoom (now values) × FreshRoom (now fresh) × VerdictsRoom (now verdicts) ⌝ }
@@ -74,23 +77,42 @@ pub fn one_record(
                 listing,
             };
             let next = made + 1;
-            commit_to(
-                file,
-                at,
-                number,
-                versions,
-                keys,
-                views,
-                seen,
-                sessions,
-                commits,
-                links,
-                verdicts,
-                values,
-                fresh,
-                n,
-                CommitNumber(next),
-            )
+            match engine {
+                Engine::Fast => commit_to(
+                    file,
+                    at,
+                    number,
+                    versions,
+                    keys,
+                    views,
+                    seen,
+                    sessions,
+                    commits,
+                    links,
+                    verdicts,
+                    values,
+                    fresh,
+                    n,
+                    CommitNumber(next),
+                ),
+                Engine::Plain => commit_plainly(
+                    file,
+                    at,
+                    number,
+                    versions,
+                    keys,
+                    views,
+                    seen,
+                    sessions,
+                    commits,
+                    links,
+                    verdicts,
+                    values,
+                    fresh,
+                    n,
+                    CommitNumber(next),
+                ),
+            }
         }
     }
 }

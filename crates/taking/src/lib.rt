@@ -1,6 +1,7 @@
 // A trace file is taken or refused: its form and then its meaning, over all records, by codes 1 to 14. Where it is taken, the arrays that were lent
 // keep its last store, and the answer has its verdicts. Whatever a call makes of a taken trace comes after this and is its own: the call makes the
 // arrays of the opening store, lends them here, and ends with what it writes or answers.
+use run::Engine;
 use run::Ran;
 use state::Refusal;
 use store::Store;
@@ -33,6 +34,7 @@ fn take_records(
     keys: &mut [u64],
     commits: &mut [u64],
     views: &mut [u64],
+    engine: Engine,
 ) -> Taking
     requires { ⌜ WholeFile (now file) h × (minBytes ≤ length (now file)) × (length (now file) ≤ maxBytes) ⌝ }
     requires { ⌜ Opened (now versions) (now keys) (now commits) (now views) ⌝ }
@@ -60,6 +62,7 @@ fn take_records(
         &mut noted,
         &mut values,
         &mut fresh,
+        engine,
     );
     match ran {
         Ran::Refused(refusal) => Taking::Refused(refusal),
@@ -78,13 +81,14 @@ pub fn take_file(
     keys: &mut [u64],
     commits: &mut [u64],
     views: &mut [u64],
+    engine: Engine,
 ) -> Taking
     requires { ⌜ Opened (now versions) (now keys) (now commits) (now views) ⌝ }
     ensures { λ r. ⌜ TakingSays (now (file .entry)) (now (versions .exit)) (now (keys .exit)) (now (commits .exit)) (now (views .exit)) r ⌝ }
 {
     match trace::form::form_of(file) {
         Form::Misshapen { code, record } => Taking::Refused(Refusal::of_record(code, record)),
-        Form::Whole(h) => take_records(file, h, versions, keys, commits, views),
+        Form::Whole(h) => take_records(file, h, versions, keys, commits, views, engine),
     }
 }
 
@@ -97,5 +101,12 @@ pub fn take(file: &[u8]) -> Taking
     let mut keys = s.keys;
     let mut commits = s.commits;
     let mut views = [1u64; state::VIEWS];
-    take_file(file, &mut versions, &mut keys, &mut commits, &mut views)
+    take_file(
+        file,
+        &mut versions,
+        &mut keys,
+        &mut commits,
+        &mut views,
+        Engine::Fast,
+    )
 }

@@ -27,6 +27,12 @@ static void *judge(void *nothing) {
     return nothing;
 }
 
+static void *plain(void *nothing) {
+    start = __builtin_frame_address(0);
+    plain_file(file, file_length, words, CONSISTENCY_JUDGE_WORDS);
+    return nothing;
+}
+
 static void *replay(void *nothing) {
     start = __builtin_frame_address(0);
     replay_file(file, file_length, buffer, buffer_length, words, CONSISTENCY_REPLAY_WORDS);
@@ -88,7 +94,7 @@ static void *report_one(void *nothing) {
 static const struct {
     const char *name;
     void *(*make)(void *);
-} calls[] = {{"judge_file", judge}, {"replay_file", replay}, {"short_file", shorten}, {"long_file", lengthen}, {"report_file", report},
+} calls[] = {{"judge_file", judge}, {"plain_file", plain}, {"replay_file", replay}, {"short_file", shorten}, {"long_file", lengthen}, {"report_file", report},
              {"judge_image", judge_one}, {"open_session", open_one}, {"push_piece", push}, {"close_session", close_one}, {"report_session", report_one}};
 
 static void must(int holds, const char *what) {

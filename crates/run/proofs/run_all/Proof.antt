@@ -18,14 +18,14 @@ use Rattle.run.proofs.run_all.Statement.{statement}
 use Rattle.run.proofs.run_all.Tie as tie
 
 abbrev Inv-loop : tie.InvT-loop
-Inv-loop file n clients records versions₀ keys₀ views₀ seen₀ sessions₀ commits₀ links₀ verdicts₀ values₀ fresh₀ at₀ number₀ made₀ left₀ versions keys views seen sessions commits links verdicts values fresh at number made left =
+Inv-loop file n clients records versions₀ keys₀ views₀ seen₀ sessions₀ commits₀ links₀ verdicts₀ values₀ fresh₀ engine at₀ number₀ made₀ left₀ versions keys views seen sessions commits links verdicts values fresh at number made left =
     (at ≤ length file) × (number + left ≡ records + 1) × Room versions keys views seen sessions commits links
     × (ValuesRoom values × FreshRoom fresh × VerdictsRoom verdicts)
     × ((rs : List Entry) → Starts file n clients records rs versions₀ keys₀ views₀ seen₀ sessions₀ commits₀ links₀ verdicts₀ values₀
     → Stands file n clients records rs left at number made versions keys views seen sessions commits links verdicts values)
 
 abbrev μ-loop : tie.MeasureT-loop
-μ-loop file n clients records versions₀ keys₀ views₀ seen₀ sessions₀ commits₀ links₀ verdicts₀ values₀ fresh₀ at₀ number₀ made₀ left₀ versions keys views seen sessions commits links verdicts values fresh at number made left = left
+μ-loop file n clients records versions₀ keys₀ views₀ seen₀ sessions₀ commits₀ links₀ verdicts₀ values₀ fresh₀ engine at₀ number₀ made₀ left₀ versions keys views seen sessions commits links verdicts values fresh at number made left = left
 
 -- ---- places of a turn, and what holds there
 
