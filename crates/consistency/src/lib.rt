@@ -64,7 +64,8 @@ pub extern "C" fn plain_file(file: &[u8], out: &mut [u64]) -> u64
         ⌝ }
     ensures agree { λ _. ⌜ EnginesAgree (now (file .entry)) ⌝ }
 {
-    if out.len() < words::ANSWER {
+    let room = out.len();
+    if room < words::ANSWER {
         return words::NO_ROOM;
     }
     words::put_answer(out, rejudging::plain(file))
