@@ -1,12 +1,10 @@
 -- A file in form: its records start on the opening arrays, and where they were run to their end the trace is taken. Assumes nothing.
-use Prim.Native.Nat.{ℕ, _^_, _≤_, _<_, zero-le}
+use Prim.Native.Nat.{ℕ, _≤_, zero-le}
 use mathlib.Core.Path.{_≡_, sym, _∙_, subst}
-use mathlib.Core.Option.{Option, some, none}
+use mathlib.Core.Option.{Option, some}
 use mathlib.Core.List.{List}
 use native.Mathlib.Omega.{arith}
-use native.Mathlib.Decide.{decLt}
-use lib.Dec.{lit<}
-use lib.ListN.{length, getD, length-replicate, getD-replicate, List·getD-eq-default}
+use lib.ListN.{length}
 use Rattle.endian.specs.Endian.{Bytes}
 use Rattle.store.specs.Limits.{maxCommits, minBytes, maxBytes}
 use Rattle.store.specs.Store.{opening, openingStore, Event}
@@ -27,9 +25,10 @@ use Rattle.state.specs.Places.{versionsLength, keysLength, seenLength, sessions
 use Rattle.state.proofs.Opening.{filled, keeps-opening}
 use Rattle.state.specs.Answers.{refusalOf}
 use Rattle.state.specs.declared.Refusal.{Refusal}
-use Rattle.verdicts.specs.Verdicts.{verdictsLength, KeepsVerdict, KeepsVerdicts}
+use Rattle.verdicts.specs.Verdicts.{verdictsLength, KeepsVerdicts}
 use Rattle.verdicts.specs.Told.{tellAll, verdictsOf}
 use Rattle.verdicts.specs.declared.told.Verdicts.{Verdicts}
+use Rattle.trial.proofs.Judged.{no-failure, no-value}
 use Rattle.run.specs.Ran.{Starts, Ended, RanSays}
 use Rattle.run.specs.declared.Ran.{Ran}
 use Rattle.run.specs.declared.Ran.the-variants.{Done, Refused}
@@ -45,22 +44,6 @@ pub whole-length : {s : List ℕ} → Bytes s → {h : Header} → WholeFile s h
 whole-length {s} b {h} w = decoded-length s b (traceIn w) (w .decoded)
 
 -- ---- at the start
-
--- zeros are read as zero at any place
-zeros : (n j : ℕ) → getD (filled n 0) j 0 ≡ 0
-zeros n j = go (decLt j n)
-  where
-    go : Dec (j < n) → getD (filled n 0) j 0 ≡ 0
-    go (yes l) = getD-replicate n j 0 0 l
-    go (no m) = List·getD-eq-default (filled n 0) 0 (let e : length (filled n 0) ≡ n = length-replicate {A = ℕ} n 0 in omega arith)
-
--- no level has failed
-no-failure : KeepsVerdicts (λ l. none) (filled verdictsLength 0)
-unfolding KeepsVerdict
-no-failure = record { room = length-replicate {A = ℕ} verdictsLength 0; verdict = λ i l. zeros verdictsLength i }
-
-no-value : (r : ℕ) → getD (filled valuesLength 0) r 0 < 2 ^ 32
-no-value r = let z = zeros valuesLength r in subst (λ (x : ℕ). x < 2 ^ 32) (sym z) (lit< tt)
 
 -- the records start on the arrays of the opening store, with no failure
 pub starts : {s : List ℕ} {h : Header} (w : WholeFile s h) {versions keys views seen sessions commits links verdicts values : List ℕ}

@@ -1,43 +1,51 @@
 -- One commit judged by trying: what is given where its clauses are tried, and where it is judged when it is made. Assumes nothing.
-use Prim.Native.Nat.{ℕ, _+_, _*_, _≤_, _<_}
-use mathlib.Core.Path.{_≡_, refl, sym, ap, _∙_, subst}
-use mathlib.Core.Option.{Option, some, none}
+use Prim.Native.Nat.{ℕ, _+_, _*_, _^_, _<_}
+use mathlib.Core.Path.{_≡_, sym, ap, _∙_, subst}
+use mathlib.Core.Option.{Option, none}
 use mathlib.Core.List.{List}
 use native.Mathlib.Omega.{arith}
-use lib.ListN.{length, getD}
-use Rattle.search.specs.Choose.{orElse}
-use Rattle.sets.specs.Set.{Set}
-use Rattle.dependencies.specs.History.{Holds}
+use native.Mathlib.Decide.{decLt}
+use lib.Dec.{lit<}
+use lib.ListN.{length, getD, length-replicate, getD-replicate, List·getD-eq-default}
 use Rattle.store.specs.Limits.{maxKeys, maxClients}
-use Rattle.store.specs.Store.{View, Store, Configuration, nextNumber, Commit, commit}
+use Rattle.store.specs.Store.{View, Configuration, nextNumber, Commit, commit}
 use Rattle.store.specs.Update.{step, update, viewBefore, storeAfter}
 use Rattle.store.specs.Refusal.{refusesEvent}
-use Rattle.store.specs.Image.{ClientsFit}
 use Rattle.store.specs.View.{IsView}
-use Rattle.store.specs.Sound.{SoundStore, WithinKeys}
-use Rattle.store.specs.History.{history, held}
+use Rattle.store.specs.Sound.{WithinKeys}
 use Rattle.store.specs.Legal.{LegalCommit}
 use Rattle.store.proofs.Legal.{legal-commit}
 use Rattle.store.proofs.Updated.{at-same}
 use Rattle.growth.specs.Made.{Made}
 use Rattle.growth.proofs.Made.{legal-made, sound-after}
 use Rattle.trace.proofs.Fits.{commit-fits}
-use Rattle.levels.specs.Level.{Level, clausesOf, Failure, failsClauses, failsEvent}
-use Rattle.state.specs.Places.{viewPlace, storedRow}
+use Rattle.state.specs.Places.{valuesLength, viewPlace, storedRow}
+use Rattle.state.proofs.Opening.{filled}
 use Rattle.state.specs.Rows.{RowAt}
-use Rattle.state.specs.Keeps.{IsSet, KeepsVersions, KeepsKeys, KeepsCommits, KeepsMasks, KeepsOperations, Keeps}
-use Rattle.shifts.specs.declared.Outcome.{Outcome}
-use Rattle.shifts.specs.declared.Outcome.the-variants.{Taken, Refused}
-use Rattle.shifts.specs.Outcomes.{outcomeOf}
-use Rattle.shifts.proofs.Refused.{not-taken}
-use Rattle.state.specs.declared.Refusal.{Refusal}
+use Rattle.state.specs.Keeps.{KeepsCommits, Keeps}
 use Rattle.views.specs.Rules.{StoreAndView}
-use Rattle.verdicts.specs.Wants.{Wants}
-use Rattle.verdicts.specs.declared.Wanted.{Wanted}
-use Rattle.verdicts.specs.Verdicts.{clausePlace, verdictsLength, KeepsVerdict, KeepsVerdicts}
-use Rattle.commits.specs.Records.{Recorded, EventDone}
-use Rattle.trial.specs.declared.Trial.{Trial}
-use Rattle.trial.specs.Tried.{TriedAs}
+use Rattle.verdicts.specs.Verdicts.{verdictsLength, KeepsVerdict, KeepsVerdicts}
+use Rattle.commits.specs.Records.{ValuesFit, Recorded}
+
+-- ---- arrays that are new
+
+-- zeros are read as zero at any place
+zeros : (n j : ℕ) → getD (filled n 0) j 0 ≡ 0
+zeros n j = go (decLt j n)
+  where
+    go : Dec (j < n) → getD (filled n 0) j 0 ≡ 0
+    go (yes l) = getD-replicate n j 0 0 l
+    go (no m) = List·getD-eq-default (filled n 0) 0 (let e : length (filled n 0) ≡ n = length-replicate {A = ℕ} n 0 in omega arith)
+
+-- no level has failed
+pub no-failure : KeepsVerdicts (λ l. none) (filled verdictsLength 0)
+unfolding KeepsVerdict
+no-failure = record { room = length-replicate {A = ℕ} verdictsLength 0; verdict = λ i l. zeros verdictsLength i }
+
+pub no-value : ValuesFit (filled valuesLength 0)
+no-value r = let z = zeros valuesLength r in subst (λ (x : ℕ). x < 2 ^ 32) (sym z) (lit< tt)
+
+-- ---- a commit
 
 module _ {g : Configuration} {c : Commit} {clients n : ℕ} {versions keys views seen sessions commits links : List ℕ}
     (r : Recorded g c clients n versions keys views seen sessions commits links) where
@@ -85,8 +93,3 @@ module _ {g : Configuration} {c : Commit} {clients n : ℕ} {versions keys views
       pub in-commits : KeepsCommits (storeAfter g c) commits′
       unfolding step
       in-commits = kept .in-commits
-
--- no level has failed where all words are 0
-pub none-noted : {verdicts : List ℕ} → length verdicts ≡ verdictsLength → ((i : ℕ) → getD verdicts i 0 ≡ 0) → KeepsVerdicts (λ l. none) verdicts
-unfolding KeepsVerdict
-none-noted long zero = record { room = long; verdict = λ i b. zero (clausePlace i) }
