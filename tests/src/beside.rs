@@ -21,6 +21,9 @@ use consistency::{
 /// Words behind those of an answer, which must not be touched.
 const BEHIND: usize = 4;
 
+/// The plain engine judges a file of so many bytes in a few milliseconds.
+const SHORT: usize = 4_000;
+
 /// A call with its answer as words: lent a file, a buffer and the words.
 pub type InWords = fn(&[u8], &mut [u8], &mut [u64]) -> u64;
 
@@ -153,6 +156,8 @@ pub fn compare(call: Call, name: &str, file: &[u8], outcome: &Outcome, length: u
             let due = answer(outcome, &mut pattern(length));
             assert_eq!(port(file, &mut bytes), told_answer(&due), "{name}");
         }
+        // The words of every file are compared above, and long ones take it long.
+        Call::Plain if file.len() > SHORT => {}
         Call::Plain => {
             let mut image = vec![0; Call::Judge.longest()];
             let due = judge(file, &mut image);
