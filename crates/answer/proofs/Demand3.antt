@@ -20,6 +20,7 @@ use Rattle.answer.proofs.Taken.{Taken}
 use Rattle.answer.proofs.Orders.{si-psi, si-cp, psi-cc, cp-cc, cc-mr, cc-mw, cc-ryw, cc-wfr, earliest-si}
 use Rattle.answer.proofs.Rings.{si-rings, ser-rings}
 use Rattle.answer.proofs.ReplayFile.{ser-replay}
+use Rattle.answer.proofs.SerialRun.{ser-serial}
 
 -- a trace that is taken has been read from its bytes, and none of codes 9 to 14 is due
 pub accepted-trace : (bytes : List ℕ) (t : Trace) → accept bytes ≡ taken t → (decode bytes ≡ taken t) × (meaningless t ≡ none)
@@ -61,4 +62,5 @@ demand3 bytes b t e =
       si-rings = si-rings t h;
       ser-rings = ser-rings t h;
       ser-replay = ser-replay t w h;
+      ser-serial = ser-serial t w h;
     }

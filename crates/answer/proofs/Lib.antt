@@ -8,6 +8,8 @@ pub mod OwnWrites
 pub mod FullView
 pub mod Replayed
 pub mod ReplayFile
+pub mod Values
+pub mod SerialRun
 pub mod Demand3
 pub mod Recorded
 pub mod EarlierRule

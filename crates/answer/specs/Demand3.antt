@@ -1,4 +1,4 @@
--- Demand 3 (00; 01, The words of demand 3): a single claim about the bytes of every taken trace. Assumes nothing.
+-- Demand 3 (00; 01, The words of demand 3), with the serial run by hand (02, E11): a single claim about the bytes of every taken trace. Assumes nothing.
 use Prim.Native.Nat.{ℕ, suc, _≤_, min}
 use mathlib.Core.Path.{_≡_}
 use mathlib.Core.Option.{Option, some, none}
@@ -13,6 +13,7 @@ use Rattle.trace.specs.Format.{Trace}
 use Rattle.levels.specs.Level.{Level, MR, MW, RYW, WFR, CC, UA, PSI, CP, SI, SER, Failure}
 use Rattle.answer.specs.Answer.{finalStore, accept, verdict}
 use Rattle.answer.specs.Replay.{replayTrace, replay}
+use Rattle.answer.specs.SerialRun.{allZero, serialRun, newestValues}
 
 -- "A level fails at the number of the first commit that fails it; one that accepts counts as failing at the number of commits
 -- plus one."
@@ -62,6 +63,8 @@ pub record Claim (t : Trace) : Type 0 where
   -- "and the same commits in the same order, each made from a full view and left with one, are taken too, give the same store
   -- and the same image byte for byte, and pass all ten."
   pub ser-replay : Accepts SER t → SameOutcome t (replay t)
+  -- "For a trace that SER accepts, .. Each read finds its value there, and the table ends with each key's newest version." (02, E11)
+  pub ser-serial : Accepts SER t → serialRun allZero (t .events) ≡ some (newestValues (finalStore t))
 
 -- "Whatever trace is taken, all of this holds of it": of the bytes of any file
 abbrev pub Demand3 : List ℕ → Type 0

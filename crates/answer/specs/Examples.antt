@@ -56,7 +56,7 @@ traceA = record {
 
 -- "B* Lost update, one key, two clients. Each reads 0 and writes 1 from {0}; views after {0,1} and {0,2}. UA, PSI, SI fail at record
 -- 2, clause 5, key 0, version 1; SER there by clause 8; others accept."
-abbrev traceB : Row
+abbrev pub traceB : Row
 traceB = record {
   trace = record {
     keys = 1;
@@ -94,7 +94,7 @@ traceC = record {
 
 -- "D* Write skew, one commit each: client 0 reads both keys as 0 and writes key 0, client 1 reads both as 0 and writes key 1; views
 -- after gain the own version only. Only SER fails, record 2, key 0, version 1."
-abbrev traceD : Row
+abbrev pub traceD : Row
 traceD = record {
   trace = record {
     keys = 2;
@@ -127,7 +127,7 @@ traceE = record {
 
 -- "F* Client 0 writes key 0, then key 1; client 2 shifts to {0},{0,1} and reads key 1. MW fails at record 4, key 0, version 1; WFR
 -- accepts."
-abbrev traceF : Row
+abbrev pub traceF : Row
 traceF = record {
   trace = record {
     keys = 2;

@@ -1,6 +1,7 @@
 pub mod Output
 pub mod Answer
 pub mod Replay
+pub mod SerialRun
 pub mod Demand3
 pub mod Recorded
 pub mod Written

@@ -1,19 +1,16 @@
 -- "Images from a trace that SER accepts must get 0" (02, E9): in the store that such a trace ends in links lead from lower to higher commit
 -- numbers, so it has no ring. Assumes nothing.
-use Prim.Native.Nat.{ℕ, suc, _-_, _^_, _≤_, _<_}
+use Prim.Native.Nat.{_<_}
 use mathlib.Core.Path.{_≡_, refl, sym, ap}
 use mathlib.Core.List.{List}
 use native.Mathlib.Omega.{arith}
 use native.Mathlib.Decide.{ℕ-discrete, decLt}
 use lib.Dec.{T}
-use Rattle.sets.specs.Set.{has}
-use Rattle.sets.proofs.Laws.{has-large, has-highest, highest-most}
 use Rattle.relations.specs.Relation.{Plus, one, more}
 use Rattle.dependencies.specs.History.{write-read, write-write, read-write}
-use Rattle.store.specs.Store.{Key, CommitNumber, Client, View, Store, Configuration, opening, count, Commit, shift, commit}
-use Rattle.store.specs.Update.{newest, viewBefore, step}
+use Rattle.store.specs.Store.{CommitNumber, Client, View, Store, Configuration, opening, Commit, shift, commit}
+use Rattle.store.specs.Update.{viewBefore, step}
 use Rattle.store.specs.Links.{LinkKind, so, wr, ww, rw as rw-kind}
-use Rattle.store.specs.View.{IsView}
 use Rattle.store.specs.Sound.{Sound, WithinKeys}
 use Rattle.store.specs.Legal.{LegalCommit}
 use Rattle.store.proofs.Sound.{sound-opening}
@@ -26,6 +23,7 @@ use Rattle.answer.specs.Answer.{finalStore}
 use Rattle.answer.specs.Demand3.{Accepts}
 use Rattle.answer.proofs.Taken.{Taken}
 use Rattle.answer.proofs.Orders.{accepts-each}
+use Rattle.answer.proofs.FullView.{newest-of-all}
 use Rattle.ordering.specs.Links.{links, IsCommit}
 use Rattle.ordering.specs.Judge.{Shown, order, ring, judgeBare}
 use Rattle.ordering.specs.Claim.{Holds, of-order, of-ring}
@@ -38,14 +36,6 @@ use Rattle.ordering.proofs.Rings.{ring-walk}
 use Rattle.ordering.proofs.Judge.{judge-bare}
 
 -- ---- along a run that serialisability accepts
-
--- a view that holds every version of a key sees the last
-newest-of-all : (s : Store) (u : View) → IsView s u → (k : Key) → k < s .keys → 0 < count s k → ((i : ℕ) → i < count s k → T (has (u k) i)) → suc (newest u k) ≡ count s k
-newest-of-all s u v k l p all =
-    let some : 2 ^ 0 ≤ u k = has-large (u k) 0 (v .opened k l) in
-    let high : newest u k < count s k = v .exist k (newest u k) (has-highest (u k) (omega arith) (v .word k)) in
-    let most : count s k - 1 ≤ newest u k = highest-most (u k) (omega arith) (v .word k) (count s k - 1) (all (count s k - 1) (omega arith)) in
-    omega arith
 
 forward-commit : (g : Configuration) (c : Commit) → Sound g → WithinKeys (g .store .keys) c → LegalCommit g c → Passes SER g c → Forward (g .store) → Forward (step g (commit c) .store)
 unfolding step

@@ -1,5 +1,5 @@
--- What a commit of a bare image, as it is run, reads and writes; and the values of a store after a commit. Assumes nothing.
-use Prim.Native.Nat.{ℕ, zero, suc, _+_, _≤_, _<_}
+-- What a commit of a bare image, as it is run, reads and writes. Assumes nothing.
+use Prim.Native.Nat.{ℕ, zero, suc, _≤_, _<_}
 use mathlib.Core.Path.{_≡_, refl, sym, ap, _∙_, subst}
 use mathlib.Core.Bool.{Bool, true, false, _&&_}
 use mathlib.Core.Logic.{_≢_}
@@ -8,16 +8,13 @@ use mathlib.Core.List.{List, [], _∷_, _++_}
 use native.Mathlib.Omega.{arith}
 use native.Mathlib.Decide.{ℕ-discrete, decLt}
 use lib.Dec.{T, eqb, eqb-refl, not-T}
-use lib.ListN.{length, getD, set}
-use lib.Seq.{getD-set-same, getD-set-other, getD-append-seam}
 use Rattle.search.specs.Choose.{choose, isSome, mapSome, orElse}
 use Rattle.search.specs.Search.{least}
 use Rattle.search.proofs.Choose.{choose-yes, choose-no}
 use Rattle.search.proofs.Tests.{eq-is}
 use Rattle.search.proofs.Search.{Least, found, missed, least-is}
-use Rattle.store.specs.Store.{Key, CommitNumber, Value, Version, openingVersion, View, Store, count, version, nextNumber, Access, read, write, Operation, Commit}
-use Rattle.store.specs.Update.{sameAccess, valueOf, newest, readBy, noteRead, append, update}
-use Rattle.store.proofs.Updated.{note-length, append-old}
+use Rattle.store.specs.Store.{Key, CommitNumber, Value, Store, count, version, Access, read, write, Operation}
+use Rattle.store.specs.Update.{sameAccess, valueOf}
 use Rattle.ordering.specs.Order.{versionsBy, valueBy, operationOf, operationsBelow, commitOf}
 
 -- ---- the operations of a commit
@@ -137,38 +134,3 @@ module _ (s : Store) (only : (k i : ℕ) → i < count s k → k < s .keys) (t :
       go : (o : Option ℕ) → Least (count s k) (versionsBy s t a k) o → mapSome (λ i. version s k i .value) o ≡ some (version s k i .value)
       go none (missed m) = absurd (m i (d .0) (d .1))
       go (some j) (found l u h) = ap (λ (x : ℕ). some (version s k x .value)) (sym (once j (l, u)))
-
--- ---- values after a commit
-
-note-value : (o : Option Value) (p t : ℕ) (vs : List Version) (i : ℕ) → i < length vs
-    → getD (noteRead o p t vs) i openingVersion .value ≡ getD vs i openingVersion .value
-unfolding noteRead
-note-value none p t vs i l = refl
-note-value (some x) p t vs i l = go (ℕ-discrete i p)
-  where
-    go : Dec (i ≡ p) → getD (set vs p (readBy t (getD vs p openingVersion))) i openingVersion .value ≡ getD vs i openingVersion .value
-    go (yes e) =
-        let q : getD (set vs p (readBy t (getD vs p openingVersion))) p openingVersion ≡ readBy t (getD vs p openingVersion) =
-        getD-set-same vs p _ openingVersion (subst (λ (x : ℕ). x < length vs) e l) in
-        rw (e, q) refl
-    go (no n) = ap (λ (v : Version). v .value) (getD-set-other vs p i _ openingVersion n)
-
-module _ (s : Store) (u : View) (c : Commit) where
-  abbrev noted : Key → List Version
-  noted k = noteRead (valueOf read (c .operations) k) (newest u k) (nextNumber s) (s .versions k)
-
-  noted-length : (k : Key) → length (noted k) ≡ count s k
-  noted-length k = note-length (valueOf read (c .operations) k) (newest u k) (nextNumber s) (s .versions k)
-
-  pub value-kept : (k i : ℕ) → i < count s k → version (update s u c) k i .value ≡ version s k i .value
-  unfolding update
-  value-kept k i l =
-      ap (λ (v : Version). v .value) (append-old (valueOf write (c .operations) k) (nextNumber s) (noted k) i (omega (arith, noted-length k)))
-      ∙ note-value (valueOf read (c .operations) k) (newest u k) (nextNumber s) (s .versions k) i l
-
-  pub value-new : (k : Key) (x : Value) → valueOf write (c .operations) k ≡ some x → version (update s u c) k (count s k) .value ≡ x
-  unfolding update append
-  value-new k x e =
-      subst (λ (i : ℕ). getD (append (valueOf write (c .operations) k) (nextNumber s) (noted k)) i openingVersion .value ≡ x) (noted-length k)
-      (subst (λ (o : Option Value). getD (append o (nextNumber s) (noted k)) (length (noted k)) openingVersion .value ≡ x) (sym e)
-      (ap (λ (v : Version). v .value) (getD-append-seam (noted k) (record { value = x; writer = nextNumber s; readers = 0 }) [] openingVersion)))

@@ -21,12 +21,13 @@ use Rattle.store.specs.History.{Wrote, Read}
 use Rattle.store.proofs.Updated.{count-written, count-unwritten, wrote-stays, wrote-new, read-update-is}
 use Rattle.store.proofs.Sound.{opening-first, opening-unread, sound-opening}
 use Rattle.answer.specs.Replay.{fullView}
+use Rattle.answer.proofs.Values.{value-kept, value-new}
 use Rattle.ordering.specs.Links.{links, IsCommit}
 use Rattle.ordering.specs.Order.{commitOf, nameIn, madeAfter, renamed, renamedSet, EachOnce, IsOrder}
 use Rattle.ordering.proofs.Lists.{none-twice-few}
 use Rattle.ordering.proofs.Placing.{NoneBackwards}
 use Rattle.ordering.proofs.Shape.{WellFormed, written-later, link}
-use Rattle.ordering.proofs.Operations.{does-out, does-in, value-kept, value-new}
+use Rattle.ordering.proofs.Operations.{does-out, does-in}
 use Rattle.ordering.proofs.Names.{Names, order-names, renamed-has, has-renamed, getD-map}
 use Rattle.ordering.proofs.Run.{after-keys, after-commits, after-sound, newest-last}
 

@@ -21,11 +21,11 @@ use Rattle.growth.specs.Ordered.{Ordered}
 use Rattle.growth.proofs.Ordered.{ordered-final, writes-once}
 use Rattle.answer.specs.Answer.{finalStore}
 use Rattle.answer.proofs.Taken.{Taken, sound-final}
+use Rattle.answer.proofs.Values.{value-kept}
 use Rattle.ordering.specs.Links.{IsCommit}
 use Rattle.ordering.specs.Shape.{wellFormed}
 use Rattle.ordering.proofs.Shape.{WellFormed}
 use Rattle.ordering.proofs.Formed.{well-formed-is}
-use Rattle.ordering.proofs.Operations.{value-kept}
 
 -- what holds of versions along a run, besides the order of numbers
 record Kept (s : Store) : Type 0 where
