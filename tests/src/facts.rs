@@ -1,5 +1,6 @@
-//! Section "The words of demand 3": the facts that hold of every taken trace,
-//! as functions to test with. Each answers what it found false.
+//! Section "The words of demand 3", with what request E11 adds: the facts that hold
+//! of every taken trace, as functions to test with. Each answers what it found
+//! false.
 
 mod editions;
 mod views;
@@ -12,6 +13,7 @@ use crate::relations::{
     dependencies, has_loop, one_or_more, rw, so, then_maybe, union, wr, ww, Relation,
 };
 use crate::run::{run, Run};
+use crate::serial::holds_by_hand;
 use crate::store::{CommitNumber, Store};
 use crate::trace::Trace;
 use crate::{form, outcome, Report, Taken, Verdict};
@@ -150,11 +152,22 @@ pub fn replay_holds(taken: &Taken) -> Result<(), String> {
     Ok(())
 }
 
+/// If SER accepts, a serial run by hand finds what was read and comes to the
+/// final store.
+pub fn serial_run_holds(trace: &Trace, taken: &Taken) -> Result<(), String> {
+    if accepts(&taken.report, "SER") {
+        holds_by_hand(trace, &taken.store)
+    } else {
+        Ok(())
+    }
+}
+
 /// Demand 3, whole, of one taken trace.
-pub fn demand_3_holds(taken: &Taken) -> Result<(), String> {
+pub fn demand_3_holds(trace: &Trace, taken: &Taken) -> Result<(), String> {
     order_holds(&taken.report)?;
     rings_hold(&taken.report, &taken.store)?;
-    replay_holds(taken)
+    replay_holds(taken)?;
+    serial_run_holds(trace, taken)
 }
 
 /// The numbers of a client rise along the trace, over all its commits.

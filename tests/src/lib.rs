@@ -34,6 +34,7 @@ pub mod random;
 pub mod relations;
 pub mod replay;
 pub mod run;
+pub mod serial;
 pub mod store;
 pub mod text;
 pub mod trace;

@@ -12,19 +12,24 @@ use model::met::{possible_combinations, Met};
 use model::own_writes::{changed_verdicts, lacked};
 use model::random::Random;
 use model::run::Run;
-use model::{answer, report, Answer, Call, Outcome, Verdict};
+use model::serial::holds_by_hand;
+use model::{answer, form, report, Answer, Call, Outcome, Taken, Verdict};
 use std::collections::BTreeSet;
 
 const FILES: u64 = 20_000;
 
 #[test]
 fn generated_files() {
-    let (mut rings, mut replays) = (0, 0);
+    let (mut rings, mut accepted, mut refused, mut not_by_hand) = (0, 0, 0, 0);
     let met = Met::of(0..FILES, |seed, case, outcome| {
         check_expected(seed, case, outcome);
-        let (ring, replayed) = check_facts(seed, outcome);
-        rings += ring as usize;
-        replays += replayed as usize;
+        if let Ok(taken) = outcome {
+            let told = check_facts(seed, &case.bytes, taken);
+            rings += usize::from(told.ring);
+            accepted += usize::from(told.serial);
+            refused += usize::from(!told.serial);
+            not_by_hand += usize::from(!told.serial && !told.by_hand);
+        }
         check_lines(seed, outcome);
         let calls = Call::ALL.into_iter();
         calls
@@ -33,9 +38,11 @@ fn generated_files() {
     });
     met.print();
     println!("rings without two RW links side by side: {rings}");
-    println!("replays checked: {replays}");
+    println!("replays and serial runs checked: {accepted}");
+    println!("no serial run by hand: {not_by_hand} of {refused} that SER refuses");
     met.lacks_nothing();
-    assert!(rings > 0 && replays > 0);
+    assert!(rings > 0 && accepted > 0);
+    assert!(not_by_hand * 3 > refused && not_by_hand < refused);
 }
 
 #[test]
@@ -134,17 +141,21 @@ fn check_expected(seed: u64, case: &Case, outcome: &Outcome) {
     }
 }
 
+/// What is counted of a taken trace: a ring without two RW links side by side;
+/// whether SER accepts, so that it has a replay; whether a serial run by hand finds
+/// what was read and comes to the final store.
+struct Told {
+    ring: bool,
+    serial: bool,
+    by_hand: bool,
+}
+
 /// Demand 3 on a file that is taken, what rule 1 comes to, and what holds of the
-/// views in its image. Answers whether there is a ring without two RW links side
-/// by side, and whether there is a replay.
-fn check_facts(seed: u64, outcome: &Outcome) -> (bool, bool) {
-    let Ok(taken) = outcome else {
-        return (false, false);
-    };
-    if let Err(fact) = demand_3_holds(taken) {
-        panic!("seed {seed}: {fact}");
-    }
+/// views in its image.
+fn check_facts(seed: u64, file: &[u8], taken: &Taken) -> Told {
+    let trace = form::read(file).expect("it is taken");
     for fact in [
+        demand_3_holds(&trace, taken),
         numbers_rise(&taken.store),
         entries_differ(&taken.image),
         stored_views_hold(&taken.image, &taken.report),
@@ -155,7 +166,11 @@ fn check_facts(seed: u64, outcome: &Outcome) -> (bool, bool) {
     }
     let ring = has_ring_without_adjacent_rw(&taken.store);
     assert_eq!(ring, has_ring_without_adjacent_rw_by_closure(&taken.store));
-    (ring, taken.replay.is_ok())
+    Told {
+        ring,
+        serial: taken.replay.is_ok(),
+        by_hand: holds_by_hand(&trace, &taken.store).is_ok(),
+    }
 }
 
 /// The report has eleven lines or one.

@@ -2,8 +2,8 @@
 //! many lengths.
 
 use consistency::{
-    judge_words, replay, Conversion, Replay, JUDGE_WORDS, LONGEST_FILE, LONGEST_REPLAY,
-    LONGEST_REPORT, NO_ROOM,
+    judge_words, replay, Answer, Conversion, Replay, Verdict, JUDGE_WORDS, LONGEST_FILE,
+    LONGEST_IMAGE, LONGEST_REPLAY, LONGEST_REPORT, NO_ROOM,
 };
 use model::beside::{compare, in_words};
 use model::buffer::{pattern, untouched, LONG};
@@ -11,8 +11,9 @@ use model::files::files;
 use model::generate::{file, growing_case, largest_serial};
 use model::met::Met;
 use model::random::Random;
+use model::serial::holds_by_hand;
 use model::trace::encode;
-use model::{judge, outcome, report, Call, Outcome};
+use model::{form, image, judge, outcome, report, Call, Outcome};
 use std::thread;
 
 const FILES: u64 = 100_000;
@@ -159,6 +160,36 @@ fn growing_files() {
             compare_all(call, &name, &file, &outcome);
         }
     }
+}
+
+/// Request E11 of what was built: where its SER accepts, the commits of the file run
+/// by hand on a table of values come to the newest versions in the image that it
+/// wrote.
+#[test]
+fn serial_runs_by_hand() {
+    let (mut held, mut failed) = (0, 0);
+    for (place, file) in first_files(20_000).enumerate() {
+        let mut written = vec![0; LONGEST_IMAGE];
+        let Answer::Judged {
+            verdicts,
+            image_length,
+            ..
+        } = consistency::judge(&file, &mut written)
+        else {
+            continue;
+        };
+        let trace = form::read(&file).expect("it is taken");
+        let store = image::read_back(&written[..image_length]).expect("an image");
+        let by_hand = holds_by_hand(&trace, &store);
+        if verdicts.ser == Verdict::Accepted {
+            assert_eq!(by_hand, Ok(()), "file {place}");
+            held += 1;
+        } else {
+            failed += usize::from(by_hand.is_err());
+        }
+    }
+    println!("serial runs by hand: {held}; where SER refuses, {failed} fail");
+    assert!(held > 0 && failed > 0);
 }
 
 #[test]
