@@ -2,13 +2,14 @@
 use Prim.Native.Nat.{ℕ, _+_, _-_, _≤_, _<_}
 use mathlib.Core.Path.{_≡_, refl, sym, ap, _∙_, subst}
 use mathlib.Core.Option.{Option, some, none}
+use mathlib.Core.Logic.{_≢_}
 use mathlib.Core.List.{List}
 use native.Mathlib.Omega.{arith}
 use lib.ListN.{length}
 use Rattle.search.specs.Choose.{orElse}
 use Rattle.endian.specs.Endian.{Bytes}
 use Rattle.store.specs.Limits.{maxClients, maxCommits, minBytes}
-use Rattle.store.specs.Store.{Configuration, openingStore, opening}
+use Rattle.store.specs.Store.{Configuration, openingStore, opening, Event}
 use Rattle.store.specs.Image.{ClientsFit}
 use Rattle.store.specs.Update.{step, firstAlong}
 use Rattle.store.specs.Refusal.{refusesEvent}
@@ -17,14 +18,20 @@ use Rattle.store.specs.View.{FitsView}
 use Rattle.trace.specs.Result.{taken}
 use Rattle.trace.specs.Entry.{Entry, shifting, committing, over, commitMeant, event, eventsOf}
 use Rattle.trace.specs.Format.{Header, commitsWith, entriesFrom}
-use Rattle.trace.specs.Meaning.{entryOf, readingOf, RecordSays, InFormAt}
+use Rattle.trace.specs.Meaning.{whyNumber, entryOf, readingOf, RecordSays, countedOf, FormSays, AllRecordsSay, RestSays}
 use Rattle.trace.specs.declared.records.Record.{Record}
-use Rattle.trace.specs.declared.records.Reading.the-variants.{Whole}
+use Rattle.trace.specs.declared.records.Why.{Why}
+use Rattle.trace.specs.declared.records.Reading.{Reading}
+use Rattle.trace.specs.declared.records.Reading.the-variants.{Whole, Refused as Unread}
+use Rattle.trace.specs.declared.form.Header.{Header as CodeHeader}
+use Rattle.trace.specs.declared.form.Form.{Form}
+use Rattle.trace.specs.declared.form.Form.the-variants as Forms
 use Rattle.trace.proofs.Decoded.{ReadAt, record-read}
 use Rattle.trace.specs.WellFormed.{FitsEntry}
 use Rattle.trace.proofs.Entries.{sound-fits}
 use Rattle.trace.proofs.Fits.{commit-fits}
-use Rattle.trace.proofs.InForm.{First, first-in-form, entries-first, nothing-left}
+use Rattle.trace.proofs.InForm.{Follows, follows-itself, follows-then, First, entries-first, nothing-left}
+use Rattle.trace.proofs.Pass.{place-within, CountedSays, counted-says, then-follows, all-stopped, all-read, bytes-left, follows-form}
 use Rattle.levels.specs.Level.{Level, Failure, failsEvent}
 use Rattle.state.specs.declared.Refusal.{Refusal}
 use Rattle.state.specs.Answers.{refusalOf}
@@ -35,13 +42,72 @@ use Rattle.shifts.specs.declared.Outcome.the-variants.{Taken, Refused}
 use Rattle.shifts.specs.Outcomes.{outcomeOf}
 use Rattle.commits.specs.Records.{ValuesFit, EventDone}
 use Rattle.run.specs.Along.{Along}
-use Rattle.run.specs.Ran.{Starts, Ended}
-use Rattle.run.specs.OneRecord.{Readable, Standing, Fitting}
+use Rattle.run.specs.Ran.{headerWith, formOf, stoppedBy, Starts, Ended, RanSays}
+use Rattle.run.specs.declared.Ran.{Ran}
+use Rattle.run.specs.OneRecord.{Standing, Fitting}
 use Rattle.run.proofs.Along.{along-start, commits-after, along-refused, along-end, along-shift, along-commit}
-use Rattle.run.proofs.OneRecord.{record-readable}
 
 abbrev header : ℕ → ℕ → ℕ → Header
 header n clients records = record { keys = n; clients = clients; records = records }
+
+-- ---- the form of the records, as the run reads them
+
+-- the record at `at` is the next to be read, the one with this number, `left` are left and `made` commits came before them: what they come to, all records come to
+pub record InTurn (file : List ℕ) (n clients records left at number made : ℕ) : Type 0 where
+  pub within : at ≤ length file
+  pub few-made : made ≤ maxCommits
+  pub follows : Follows (entriesFrom file (header n clients records) left at number made) (entriesFrom file (header n clients records) records minBytes 1 0)
+
+pub turn-starts : {file : List ℕ} {n clients records : ℕ} → minBytes ≤ length file → InTurn file n clients records records minBytes 1 0
+turn-starts long = record { within = long; few-made = omega arith; follows = follows-itself _ }
+
+-- a record as it was read in its turn
+pub as-read : (file : List ℕ) (at n clients number made : ℕ) (x : Reading) → RecordSays file at n clients x → {y : Reading} → ((s : List ℕ) (keys : ℕ) → y ≡ countedOf s keys made x)
+    → {z : Reading} → y ≡ z → CountedSays file at n clients number made z
+as-read file at n clients number made x says counted is =
+    subst (CountedSays file at n clients number made) (sym (counted file n) ∙ is) (counted-says file at n clients number made x says)
+
+module _ {file : List ℕ} {n clients records left at number made : ℕ} (t : InTurn file n clients records left at number made) where
+  -- it is refused
+  pub turn-stops : 0 < left → (w : Why) → CountedSays file at n clients number made (Unread w) → {code : ℕ} → code ≡ whyNumber w
+      → AllRecordsSay file (headerWith n clients records) (Forms.Misshapen code number)
+  turn-stops some-left w says is = rw is (all-stopped file (headerWith n clients records) _ at number made left (t .follows) w some-left says)
+
+  -- it is there, and the next one is to be read
+  pub turn-goes : 0 < left → (r : Record) (next : ℕ) → CountedSays file at n clients number made (Whole r next) → {count : ℕ} → count ≡ commitsWith (entryOf file n r) made
+      → InTurn file n clients records (left - 1) next (number + 1) count
+  turn-goes some-left r next says counted = rw counted (record {
+    within = place-within file n at (Whole r next) (t .within) (says .0 .1);
+    few-made = says .1;
+    follows = follows-then (then-follows file (header n clients records) at number made left r next some-left says) (t .follows);
+  })
+
+  -- no record is left
+  pub turn-ends : left ≡ 0 → at ≡ length file → AllRecordsSay file (headerWith n clients records) (Forms.Whole (headerWith n clients records))
+  turn-ends none-left e = all-read file (headerWith n clients records) _ at number made left (t .follows) none-left e
+
+  pub turn-over : left ≡ 0 → at ≢ length file → AllRecordsSay file (headerWith n clients records) (Forms.Misshapen 5 records)
+  turn-over none-left e = bytes-left file (headerWith n clients records) _ at number made left (t .follows) none-left e
+
+  -- the form of the records that are left is that of all
+  pub turn-rest : number + left ≡ records + 1 → (f : Form) → RestSays file (headerWith n clients records) at number made f → AllRecordsSay file (headerWith n clients records) f
+  turn-rest numbered f says =
+      let so-many : records + 1 - number ≡ left = omega arith in
+      follows-form (headerWith n clients records) f (t .follows)
+      (subst (λ (k : ℕ). FormSays (entriesFrom file (header n clients records) k at number made) (headerWith n clients records) f) so-many says)
+
+-- the meaning of a record is refused: what the run comes to then is by the form of all records
+pub stopped-form : (file : List ℕ) (h : CodeHeader) (f : Form) (x : Refusal) → AllRecordsSay file h f → {r : Ran} → r ≡ stoppedBy f x → AllRecordsSay file h (formOf h r)
+unfolding FormSays
+stopped-form file h (Forms.Misshapen code k) x says is = rw is says
+stopped-form file h (Forms.Whole g) x says is = rw is (refl, says .1, says .2)
+
+pub stopped-meaning : (n : ℕ) (es : List Event) (versions keys views seen sessions commits links verdicts : List ℕ) (f : Form) (x : Refusal) → firstAlong refusesEvent 1 (opening n) es ≡ some (refusalOf x)
+    → {r : Ran} → r ≡ stoppedBy f x → RanSays n es versions keys views seen sessions commits links verdicts r
+stopped-meaning n es versions keys views seen sessions commits links verdicts (Forms.Misshapen code k) x first is = rw is tt
+stopped-meaning n es versions keys views seen sessions commits links verdicts (Forms.Whole g) x first is = rw is first
+
+-- ---- the meaning of the records, where they are in form
 
 -- the run of the records rs stands before record `number`, and the arrays keep what there is
 pub record Stands (file : List ℕ) (n clients records : ℕ) (rs : List Entry) (left at number made : ℕ) (versions keys views seen sessions commits links verdicts values : List ℕ) : Type 0 where
@@ -103,37 +169,18 @@ module _ {file : List ℕ} {n clients records : ℕ} {rs : List Entry} where
       small = s .small;
     }
 
-    -- so many commits are few
-    pub few-made : made ≤ maxCommits
-    few-made = subst (λ (m : ℕ). m ≤ maxCommits) (s .counted) (s .along .few)
-
-    -- the record at hand
-    pub in-form : 0 < left → InFormAt file at n clients
-    in-form some-left = first-in-form file (header n clients records) at number (s .g .store .commits) left some-left (s .along .read)
-
     module _ (bytes : Bytes file) (few-clients : clients ≤ maxClients) (some-left : 0 < left) (r : Record) (next : ℕ) (says : RecordSays file at n clients (Whole r next)) where
       read-again : ReadAt file (header n clients records) (readingOf file n (Whole r next))
       read-again = subst (ReadAt file (header n clients records)) (sym (says .0 records)) (record-read file bytes (header n clients records) at)
 
-      -- what it says fits, and the next one starts within the file
+      -- what it says fits
       fits : FitsEntry n clients (entryOf file n r)
       unfolding readingOf
       fits = read-again .0
 
-      pub next-within : next ≤ length file
-      unfolding readingOf
-      next-within = read-again .1
-
       first : First file (header n clients records) number (s .g .store .commits) left (entryOf file n r) next (s .rest)
       unfolding readingOf
       first = entries-first file (header n clients records) at number (s .g .store .commits) left some-left (s .along .read) (entryOf file n r) next (says .0 records)
-
-      -- there is room for it
-      room : commitsWith (entryOf file n r) made ≤ maxCommits
-      room = subst (λ (m : ℕ). commitsWith (entryOf file n r) m ≤ maxCommits) (s .counted) (first .few-commits)
-
-      pub readable : Readable file n made r
-      readable = record-readable file bytes at n clients made r next few-clients says room
 
       along-on : (x : Entry) → FitsEntry n clients x → (first : First file (header n clients records) number (s .g .store .commits) left x next (s .rest))
           → refusesEvent number (s .g) (event (s .g) x) ≡ none

@@ -1,4 +1,4 @@
-// A trace file is taken or refused: its form and then its meaning, over all records, by codes 1 to 14. Where it is taken, the arrays that were lent
+// A trace file is taken or refused, by codes 1 to 14: its header, and then its records, the form of all before the meaning of any. Where it is taken, the arrays that were lent
 // keep its last store, and the answer has its verdicts. Whatever a call makes of a taken trace comes after this and is its own: the call makes the
 // arrays of the opening store, lends them here, and ends with what it writes or answers.
 use run::Engine;
@@ -10,10 +10,8 @@ use trace::form::Header;
 use verdicts::told::Verdicts;
 use verdicts::told::verdicts_from;
 ghost use mathlib.Core.List.{List};
-ghost use Prim.Native.Nat.{ℕ, _≤_};
-ghost use lib.ListN.{length};
-ghost use Rattle.store.specs.Limits.{minBytes, maxBytes};
-ghost use Rattle.trace.specs.Meaning.{WholeFile};
+ghost use Prim.Native.Nat.{ℕ};
+ghost use Rattle.trace.specs.Meaning.{Headed};
 ghost use Rattle.taking.specs.Taking.{Opened, TakingSays};
 
 // What a file comes to: a refusal; or a trace with its header and so many commits, and the verdicts of the levels.
@@ -26,7 +24,7 @@ pub enum Taking {
     },
 }
 
-// A file in form, with its header: its records are run from the opening on.
+// A file with its header: its records are run from the opening on.
 fn take_records(
     file: &[u8],
     h: Header,
@@ -36,7 +34,7 @@ fn take_records(
     views: &mut [u64],
     engine: Engine,
 ) -> Taking
-    requires { ⌜ WholeFile (now file) h × (minBytes ≤ length (now file)) × (length (now file) ≤ maxBytes) ⌝ }
+    requires { ⌜ Headed (now file) h ⌝ }
     requires { ⌜ Opened (now versions) (now keys) (now commits) (now views) ⌝ }
     ensures { λ r. ⌜ TakingSays (now (file .entry)) (now (versions .exit)) (now (keys .exit)) (now (commits .exit)) (now (views .exit)) r ⌝ }
 {
@@ -65,6 +63,7 @@ fn take_records(
         engine,
     );
     match ran {
+        Ran::Misshapen { code, record } => Taking::Refused(Refusal::of_record(code, record)),
         Ran::Refused(refusal) => Taking::Refused(refusal),
         Ran::Done { commits: count } => Taking::Taken {
             header: h,
@@ -86,7 +85,7 @@ pub fn take_file(
     requires { ⌜ Opened (now versions) (now keys) (now commits) (now views) ⌝ }
     ensures { λ r. ⌜ TakingSays (now (file .entry)) (now (versions .exit)) (now (keys .exit)) (now (commits .exit)) (now (views .exit)) r ⌝ }
 {
-    match trace::form::form_of(file) {
+    match trace::form::header_of(file) {
         Form::Misshapen { code, record } => Taking::Refused(Refusal::of_record(code, record)),
         Form::Whole(h) => take_records(file, h, versions, keys, commits, views, engine),
     }

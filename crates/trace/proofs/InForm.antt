@@ -12,14 +12,13 @@ use Rattle.search.proofs.Steps.{need-met}
 use Rattle.search.proofs.Tests.{true-T}
 use Rattle.endian.specs.Endian.{leAt}
 use Rattle.store.specs.Limits.{maxCommits, minBytes, maxBytes}
-use Rattle.store.specs.Refusal.{Refusal}
+use Rattle.store.specs.Refusal.{Refusal, refuse}
 use Rattle.trace.specs.Result.{Result, refused, taken, onTaken}
 use Rattle.trace.specs.Entry.{Entry}
 use Rattle.trace.specs.Format as Format
 use Rattle.trace.specs.Format.{misshapen, whole, recordAt, commitsWith, onRecord, entriesFrom, headerAt, withinLimits, traceOf, decode}
-use Rattle.trace.specs.Meaning.{InFormAt, headerOf, AllRecordsSay, FormSays}
+use Rattle.trace.specs.Meaning.{InFormAt, headerOf, FormSays, AllRecordsSay, WholeFile, Headed}
 use Rattle.trace.specs.declared.form.Header.{Header}
-use Rattle.trace.specs.declared.form.Form.{Form}
 use Rattle.trace.specs.declared.form.Form.the-variants as Forms
 use Rattle.trace.proofs.Result.{refused-taken, taken-injective, onTaken-taken}
 use Rattle.trace.proofs.Tests.{withinLimits-is}
@@ -113,32 +112,44 @@ pub record Taken (s : List ℕ) (h : Header) : Type 0 where
   pub is-header : headerOf h ≡ headerAt s
 
 -- then the file is what its records are
-decode-records : (s : List ℕ) (h : Header) → Taken s h
-    → decode s ≡ onTaken (entriesFrom s (headerOf h) (h .records) minBytes 1 0) (λ rs. taken (traceOf (headerOf h) rs))
+pub headed : {s : List ℕ} {h : Header} → Taken s h → Headed s h
 unfolding decode
-decode-records s h t =
-    sym
-    (need-met _ _ _ (t .long)
-    (need-met _ _ _ (t .short)
-    (need-met _ _ _ (t .own-length)
-    (need-met _ _ _ (t .size)
-    (need-met _ _ _ (t .kind)
-    (need-met _ _ _ (ap withinLimits (sym (t .is-header)) ∙ t .limits)
-    (ap (λ (g : Format.Header). onTaken (entriesFrom s g (g .records) minBytes 1 0) (λ rs. taken (traceOf g rs))) (t .is-header))))))))
-
--- and the answer about the records is one about the file
-pub form-says : {s : List ℕ} {h : Header} (r : Form) → AllRecordsSay s h r → Taken s h → FormSays s r
-unfolding AllRecordsSay FormSays onTaken
-form-says {s} {h} (Forms.Misshapen code n) e t = decode-records s h t ∙ rw e refl
-form-says {s} {h} (Forms.Whole g) said t =
+headed {s} {h} t =
     let (some-key, few-keys, some-client, few-clients) = withinLimits-is (headerOf h) .0 (true-T _ (t .limits)) in
-    rw (said .0) (record {
+    record {
+      long = leb→le _ _ (true-T _ (t .long));
+      short = leb→le _ _ (true-T _ (t .short));
       some-key = some-key;
       few-keys = few-keys;
       some-client = some-client;
       few-clients = few-clients;
       few-records = t .few-records;
-      entries = said .1;
-      read = said .2;
-      decoded = decode-records s h t ∙ rw (said .2) refl;
-    })
+      by-records =
+          sym
+          (need-met _ _ _ (t .long)
+          (need-met _ _ _ (t .short)
+          (need-met _ _ _ (t .own-length)
+          (need-met _ _ _ (t .size)
+          (need-met _ _ _ (t .kind)
+          (need-met _ _ _ (ap withinLimits (sym (t .is-header)) ∙ t .limits)
+          (ap (λ (g : Format.Header). onTaken (entriesFrom s g (g .records) minBytes 1 0) (λ rs. taken (traceOf g rs))) (t .is-header))))))));
+    }
+
+-- and what is said of the records is said of the file: a refusal, or that it is in form
+module _ {s : List ℕ} {h : Header} (t : Headed s h) where
+  pub records-misshapen : {code n : ℕ} → AllRecordsSay s h (Forms.Misshapen code n) → decode s ≡ refused (refuse code n)
+  unfolding FormSays onTaken
+  records-misshapen e = t .by-records ∙ rw e refl
+
+  pub records-whole : AllRecordsSay s h (Forms.Whole h) → WholeFile s h
+  unfolding FormSays onTaken
+  records-whole said = record {
+    some-key = t .some-key;
+    few-keys = t .few-keys;
+    some-client = t .some-client;
+    few-clients = t .few-clients;
+    few-records = t .few-records;
+    entries = said .1;
+    read = said .2;
+    decoded = t .by-records ∙ rw (said .2) refl;
+  }

@@ -1,14 +1,16 @@
-// The form of a whole file: codes 1 to 8 in the order of "Bench codes" (01), "1 and 2; then form over all records in turn; 5".
+// The form of a file: codes 1 to 8 in the order of "Bench codes" (01), "1 and 2; then form over all records in turn; 5". What comes before the
+// records is looked at by itself. Whoever runs the records reads each of them once, and asks here for the form of those that are left only where a meaning is refused.
 ghost use mathlib.Core.Path.{_≡_};
 ghost use mathlib.Core.List.{List};
-ghost use Prim.Native.Nat.{ℕ, _≤_, _<_};
+ghost use Prim.Native.Nat.{ℕ, _+_, _≤_, _<_};
 ghost use lib.ListN.{length};
-ghost use Rattle.store.specs.Limits.{maxKeys, minBytes};
+ghost use Rattle.store.specs.Limits.{maxKeys, maxCommits};
 ghost use Rattle.trace.specs.Format.{withinLimits};
-ghost use Rattle.trace.specs.Meaning.{goesOn, PassFits, passAfter, formAfter, headerOf, AllRecordsSay, FormSays};
+ghost use Rattle.trace.specs.Meaning.{goesOn, PassFits, countedOf, passAfter, formAfter, headerOf, RestSays, HeaderSays};
 use crate::reader;
 use crate::records;
 use crate::records::Reading;
+use crate::records::Why;
 
 // "keys u8, clients u8, count u16 of records that follow"
 pub struct Header {
@@ -17,7 +19,7 @@ pub struct Header {
     pub records: usize,
 }
 
-// A file in form, with its header, or the code of the first thing that is not and the number of the record where it is found.
+// What was looked at is in form, of a file with this header; or the code of the first thing that is not and the number of the record where it is found.
 pub enum Form {
     Whole(Header),
     Misshapen { code: usize, record: usize },
@@ -40,7 +42,22 @@ fn goes_on(p: Pass, count: usize) -> bool
     index <= count
 }
 
-// What a record leads to; code 8: "a 64th commit".
+// A record in its turn, after so many commits; code 8: "a 64th commit".
+pub fn counted(x: Reading, commits: usize) -> Reading
+    requires { ⌜ commits ≤ maxCommits ⌝ }
+    ensures { λ r. ⌜ ((s : List ℕ) (keys : ℕ) → r ≡ countedOf s keys commits x) ⌝ }
+{
+    let Reading::Whole { record, next: _ } = x else {
+        return x;
+    };
+    let count = records::commits_with(record, commits);
+    if store::Store::COMMITS < count {
+        return Reading::Refused(Why::Many);
+    }
+    x
+}
+
+// What a record leads to.
 fn after(p: Pass, x: Reading) -> Pass
     requires { ⌜ PassFits p ⌝ }
     ensures { λ q. ⌜ ((s : List ℕ) (keys : ℕ) → q ≡ passAfter s keys p x) ⌝ }
@@ -48,22 +65,16 @@ fn after(p: Pass, x: Reading) -> Pass
     let Pass::Going { index, commits } = p else {
         return p;
     };
-    let Reading::Whole { record, next: _ } = x else {
+    let r = counted(x, commits);
+    let Reading::Whole { record, next: _ } = r else {
         return Pass::Stopped {
-            code: records::refusal(x),
+            code: records::refusal(r),
             record: index,
         };
     };
-    let count = records::commits_with(record, commits);
-    if store::Store::COMMITS < count {
-        return Pass::Stopped {
-            code: 8,
-            record: index,
-        };
-    }
     Pass::Going {
         index: index + 1,
-        commits: count,
+        commits: records::commits_with(record, commits),
     }
 }
 
@@ -88,16 +99,14 @@ fn form_after(h: Header, p: Pass, at: usize, len: usize) -> Form
     }
 }
 
-// "form over all records in turn", by a reader that goes from the first to the last, each read whole or the file refused there.
-fn records_form(s: &[u8], h: Header) -> Form
-    requires { ⌜ (minBytes ≤ length (now s)) × (h .keys ≤ maxKeys) × (h .records < 65536) ⌝ }
-    ensures { λ r. ⌜ AllRecordsSay (now (s .entry)) h r ⌝ }
+// "form over all records in turn": of those from a place on, the first of which has this number and comes after so many commits, by a reader that goes
+// to the last, each read whole or the file refused there.
+pub fn records_form(s: &[u8], h: Header, at: usize, index: usize, commits: usize) -> Form
+    requires { ⌜ (at ≤ length (now s)) × (h .keys ≤ maxKeys) × (h .records < 65536) × (index ≤ h .records + 1) × (commits ≤ maxCommits) ⌝ }
+    ensures { λ r. ⌜ RestSays (now (s .entry)) h at index commits r ⌝ }
 {
-    let mut r = reader::new(s, store::Store::HEADER);
-    let mut pass = Pass::Going {
-        index: 1,
-        commits: 0,
-    };
+    let mut r = reader::new(s, at);
+    let mut pass = Pass::Going { index, commits };
     while goes_on(pass, h.records) {
         pass = after(pass, reader::next(&mut r, h.keys, h.clients));
     }
@@ -120,9 +129,9 @@ fn within_limits(h: Header) -> bool
     h.clients <= store::Store::CLIENTS
 }
 
-// The form of a file: nothing is asked of its bytes.
-pub fn form_of(s: &[u8]) -> Form
-    ensures { λ r. ⌜ FormSays (now (s .entry)) r ⌝ }
+// What comes before the records of a file, "1 and 2": nothing is asked of its bytes.
+pub fn header_of(s: &[u8]) -> Form
+    ensures { λ r. ⌜ HeaderSays (now (s .entry)) r ⌝ }
 {
     let len = s.len();
     if len < store::Store::HEADER {
@@ -146,7 +155,7 @@ pub fn form_of(s: &[u8]) -> Form
         records: endian::u16_at(s, 10) as usize,
     };
     if within_limits(h) {
-        records_form(s, h)
+        Form::Whole(h)
     } else {
         Form::Misshapen { code: 2, record: 0 }
     }

@@ -16,6 +16,7 @@ pub enum Why {
     Kind,
     Client,
     Body,
+    Many,
 }
 
 // The masks that a record lists, by rising key from the place `masks` on: of every key (kinds 2 and 3), of the keys in a set (kind 6), or of
@@ -71,6 +72,7 @@ pub fn number(w: Why) -> usize
         Why::Kind => 4,
         Why::Client => 6,
         Why::Body => 7,
+        Why::Many => 8,
     }
 }
 

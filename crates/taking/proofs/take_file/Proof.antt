@@ -1,16 +1,14 @@
 -- `taking::take_file` meets its contract: nothing is asked of the bytes of a file. Assumes nothing.
 use mathlib.Core.Path.{sym, ap, _∙_}
-use denote.Ref.{now}
-use Rattle.endian.specs.Endian.{Bytes}
 use Rattle.trace.specs.Result.{refused}
 use Rattle.taking.specs.Taking.{TakingSays}
-use Rattle.taking.proofs.InForm.{whole-length, whole-of, misshapen-of}
+use Rattle.taking.proofs.InForm.{headed-of, misshapen-of}
 use borrow.Author.Needs.{needs}
 use Rattle.taking.proofs.take_file.Statement.{statement}
 use Rattle.taking.proofs.take_file.Tie as tie
 
-form-of-requires : tie.Need-form-of-requires
-form-of-requires c κs = search needs
+header-of-requires : tie.Need-header-of-requires
+header-of-requires c κs = search needs
 
 enum-known-code : tie.Need-enum-known-code
 enum-known-code c = search needs
@@ -23,17 +21,13 @@ enum-known-h c = search needs
 
 take-records-requires : tie.Need-take-records-requires
 take-records-requires c κs =
-    let form = c .before .before .before .before .before .before .before in
-    let start = form .before .before .before .before .before .before in
-    let b : Bytes (now (start .args .file)) = λ i. form .before .before .before .before .before .shared-slice-known .given i .fits in
-    let w = whole-of (form .form-of .ensures) (c .before .before .before .before .before .h .given .1) in
-    let l = whole-length b w in
-    ((w, l .0, l .1), start .pre)
+    let header = c .before .before .before .before .before .before .before in
+    (headed-of (header .header-of .ensures) (c .before .before .before .before .before .h .given .1), header .before .before .before .before .before .before .pre)
 
 returns : tie.Need-returns
 unfolding TakingSays
 returns c =
-    misshapen-of _ (c .before .before .before .before .form-of .ensures) (c .before .before .code .given .1) ∙ ap refused (sym (c .of-record .ensures))
+    misshapen-of _ (c .before .before .before .before .header-of .ensures) (c .before .before .code .given .1) ∙ ap refused (sym (c .of-record .ensures))
 
 same-length : tie.Need-same-length
 same-length c = search needs
@@ -54,7 +48,7 @@ pub take-file-spec : {M : Type 1} → statement M
 take-file-spec =
     tie.close
     (tie.spec
-    form-of-requires
+    header-of-requires
     enum-known-code
     of-record-requires
     enum-known-h

@@ -1,8 +1,7 @@
 -- `trace::form::after` meets its contract: the pass stops, at a refusal or at a commit too many, or goes on to the next record. Assumes nothing.
 use Prim.Native.Nat.{_+_}
-use mathlib.Core.Path.{refl, ap, subst, _∙_}
+use mathlib.Core.Path.{ap, subst, _∙_}
 use native.Mathlib.Omega.{arith}
-use Rattle.search.proofs.Steps.{choose-first, choose-second, tests}
 use borrow.Author.Needs.{needs}
 use Rattle.trace.specs.declared.form.Pass.the-variants.{Going, Stopped}
 use Rattle.trace.specs.Meaning.{refusalNumber, PassFits, passAfter}
@@ -19,8 +18,12 @@ returns : tie.Need-returns
 unfolding passAfter
 returns c = λ s keys. rw (c .enum-told .given .1)
 
-enum-known-x : tie.Need-enum-known-x
-enum-known-x c = search needs
+counted-requires : tie.Need-counted-requires
+counted-requires c κs =
+    let going = c .before in subst PassFits (going .p .given .1) (going .before .before .pre) .1
+
+enum-known-r : tie.Need-enum-known-r
+enum-known-r c = search needs
 
 enum-told-2 : tie.Need-enum-told-2
 enum-told-2 c = search needs
@@ -31,33 +34,25 @@ refusal-requires c κs = search needs
 returns-2 : tie.Need-returns-2
 unfolding passAfter
 returns-2 c =
-    let going = c .before .before .before .before .p .given in
+    let going = c .before .before .before .before .before .p .given in
     let told = c .before .enum-told2 .given in
-    λ s keys. rw (going .1, told .1) (ap (λ code. Stopped code (going .0 .0)) (c .refusal .ensures ∙ ap refusalNumber (told .1)))
+    λ s keys. rw (going .1, ← c .before .before .before .counted .ensures s keys, told .1) (ap (λ code. Stopped code (going .0 .0)) (c .refusal .ensures ∙ ap refusalNumber (told .1)))
+
+add-t8 : tie.Need-add-t8
+add-t8 c =
+    let going = c .before .before .before .before .before in
+    let fits = subst PassFits (going .p .given .1) (going .before .before .pre) in
+    record { fits = omega (arith, fits .0) }
 
 commits-with-requires : tie.Need-commits-with-requires
 commits-with-requires c κs =
-    let going = c .before .before .before .before in subst PassFits (going .p .given .1) (going .before .before .pre) .1
+    let going = c .before .before .before .before .before in subst PassFits (going .p .given .1) (going .before .before .pre) .1
 
 returns-3 : tie.Need-returns-3
 unfolding passAfter
 returns-3 c =
     let going = c .before .before .before .before .before .before .p .given in
-    let read = c .before .before .before .x .given in
-    λ s keys. let counted = c .before .commits-with .ensures s keys in rw (going .1, read .1) (choose-second _ _ _ (omega tests) refl)
-
-add-t9 : tie.Need-add-t9
-add-t9 c =
-    let going = c .before .before .before .before .before .before in
-    let fits = subst PassFits (going .p .given .1) (going .before .before .pre) in
-    record { fits = omega (arith, fits .0) }
-
-returns-4 : tie.Need-returns-4
-unfolding passAfter
-returns-4 c =
-    let going = c .before .before .before .before .before .before .p .given in
-    let read = c .before .before .before .x .given in
-    λ s keys. let counted = c .before .commits-with .ensures s keys in rw (going .1, read .1) (choose-first _ _ _ (omega tests) (ap (Going (going .0 .0 + 1)) counted))
+    λ s keys. rw (going .1, ← c .before .before .before .before .counted .ensures s keys, c .before .before .r .given .1) (ap (Going (going .0 .0 + 1)) (c .commits-with .ensures s keys))
 
 pub after-spec : {M : Type 1} → statement M
 after-spec =
@@ -66,11 +61,11 @@ after-spec =
     enum-known-p
     enum-told
     returns
-    enum-known-x
+    counted-requires
+    enum-known-r
     enum-told-2
     refusal-requires
     returns-2
+    add-t8
     commits-with-requires
-    returns-3
-    add-t9
-    returns-4)
+    returns-3)
