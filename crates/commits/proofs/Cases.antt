@@ -147,7 +147,7 @@ module _ {g : Configuration} {c : Commit} {values versions keys fresh views seen
       (subst₂ (λ (d t : ℕ). Moved fresh (maxKeys * d) (viewPlace (storedRow t) 0) n views views′) (sym (l .client-is)) (sym (l .number-is)) k) s)
 
   -- what the levels are given, where no code is due
-  pub after-commit : (i : ℕ) {wanted : Wanted} {plain : Bool} {commits : List ℕ} → JudgeGiven g c wanted plain commits → {own m : Set} → IsSet own (λ t. (t ≡ me) × Writes c)
+  pub after-commit : (i : ℕ) {wanted : Wanted} {plain : Bool} {commits verdicts : List ℕ} → JudgeGiven g c wanted plain commits verdicts → {own m : Set} → IsSet own (λ t. (t ≡ me) × Writes c)
       → (none ≡ lateRefusal i g c) × IsSet m (D.Holds (history (storeAfter g c)) (held (c .viewAfter)))
       → AfterCommit (g .store) (viewBefore g c) c wanted (record { before = getD seen client 0; after = m; own = own }) versions keys commits views fresh values ranks plain (maxKeys * client) n me
   after-commit i j new says = record {

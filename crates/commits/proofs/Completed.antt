@@ -20,12 +20,14 @@ use Rattle.store.proofs.Legal.{newer-is}
 use Rattle.store.specs.History.{history, held}
 use Rattle.store.specs.Sound.{SoundStore}
 use Rattle.growth.specs.Made.{Made}
+use Rattle.growth.specs.Ordered.{Ordered}
 use Rattle.trace.proofs.Fits.{commit-fits}
 use Rattle.state.specs.Keeps.{IsSet, KeepsKeys, KeepsViews, KeepsCommits, KeepsLinks, KeepsMasks, KeepsOperations, Keeps}
 use Rattle.state.specs.Rows.{RowAt}
 use Rattle.views.specs.Own.{AddsOwn}
 use Rattle.verdicts.specs.declared.Wanted.{Wanted}
 use Rattle.verdicts.specs.Wants.{Wants}
+use Rattle.verdicts.specs.Verdicts.{Live}
 use Rattle.making.specs.Commits.{CommitGiven, MadeIn}
 use Rattle.commits.specs.Codes.{earlyRefusal, LateGiven, JudgeGiven}
 use Rattle.commits.specs.Records.{Recorded, Ready}
@@ -63,11 +65,11 @@ module _ {i : ℕ} {g : Configuration} {c : Commit} {clients client session : �
 
   -- what clauses 3 to 8 want, from the arrays before the commit
   pub wants-before : (w : Wanted)
-      → ((s : Store) (u : View) (k : Commit) (os : List ℕ) → s .keys ≡ n → SoundStore s → KeepsKeys s keys → KeepsCommits s commits → KeepsLinks s links
+      → ((s : Store) (u : View) (k : Commit) (os : List ℕ) → s .keys ≡ n → SoundStore s → Ordered s → KeepsKeys s keys → KeepsCommits s commits → KeepsLinks s links
       → KeepsOperations k ranks os → IsSet (getD seen client 0) (D.Holds (history s) (held u)) → Wants s u k w)
       → Wants (g .store) (viewBefore g c) c w
   wants-before w says =
-      says (g .store) (viewBefore g c) c values (r .keys-are) (r .sound .store) (r .keeps .in-keys) (r .keeps .in-commits) (r .keeps .in-links) (ready .operations) holds
+      says (g .store) (viewBefore g c) c values (r .keys-are) (r .sound .store) (r .ordered) (r .keeps .in-keys) (r .keeps .in-commits) (r .keeps .in-links) (ready .operations) holds
 
   -- what the making of the commit is given
   pub commit-given : CommitGiven (g .store) (viewBefore g c) c versions keys views sessions values client ranks n
@@ -103,8 +105,9 @@ module _ {i : ℕ} {g : Configuration} {c : Commit} {clients client session : �
     }
 
     -- what the levels are given
-    pub judge-given : (plain : Bool) (w : Wanted) → (T plain → AddsOwn (g .store) (viewBefore g c) c) → Wants (g .store) (viewBefore g c) c w → JudgeGiven g c w plain commits′
-    judge-given plain w adds wants = record { wants = wants; adds-own = adds; in-commits = k .in-commits }
+    pub judge-given : (plain : Bool) (w : Wanted) {verdicts : List ℕ} → (T plain → AddsOwn (g .store) (viewBefore g c) c) → Wants (g .store) (viewBefore g c) c w
+        → Live verdicts (w .live) → JudgeGiven g c w plain commits′ verdicts
+    judge-given plain w adds wants asked = record { wants = wants; asked = asked; adds-own = adds; in-commits = k .in-commits }
 
     -- the arrays after it
     pub kept-after : {views′ seen′ : List ℕ} → KeepsViews (step g (commit c)) views′ seen′ → Keeps (step g (commit c)) versions′ keys′ views′ seen′ sessions′ commits′ links′

@@ -25,7 +25,7 @@ use Rattle.levels.specs.Level.{Level, Failure, failsEvent}
 use Rattle.views.specs.Own.{AddsOwn}
 use Rattle.verdicts.specs.declared.Wanted.{Wanted}
 use Rattle.verdicts.specs.Wants.{Wants}
-use Rattle.verdicts.specs.Verdicts.{KeepsVerdicts}
+use Rattle.verdicts.specs.Verdicts.{Live, KeepsVerdicts}
 use Rattle.shifts.specs.declared.Outcome.{Outcome}
 use Rattle.shifts.specs.declared.Outcome.the-variants.{Taken}
 use Rattle.shifts.specs.Outcomes.{outcomeOf, maskRefusal}
@@ -66,8 +66,9 @@ AfterSays i g c (Bad r) = some (refusalOf r) ≡ lateRefusal i g c
 AfterSays i g c (Holds m) = (none ≡ lateRefusal i g c) × IsSet m (D.Holds (history (storeAfter g c)) (held (c .viewAfter)))
 
 -- what the levels are given besides
-pub record JudgeGiven (g : Configuration) (c : Commit) (wanted : Wanted) (plain : Bool) (commits : List ℕ) : Type 0 where
+pub record JudgeGiven (g : Configuration) (c : Commit) (wanted : Wanted) (plain : Bool) (commits verdicts : List ℕ) : Type 0 where
   pub wants : Wants (g .store) (viewBefore g c) c wanted
+  pub asked : Live verdicts (wanted .live)
   pub adds-own : T plain → AddsOwn (g .store) (viewBefore g c) c
   pub in-commits : KeepsCommits (storeAfter g c) commits
 

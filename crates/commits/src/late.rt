@@ -96,7 +96,7 @@ pub fn late(
     ensures { λ r. ⌜
         ((g : Configuration) (c : Commit) (values : List ℕ) (fs : Level → Option Failure)
         → LateGiven g c values (now (versions .entry)) (now (keys .entry)) (now (fresh .entry)) (now (views .entry)) (now (seen .entry)) client ranks n (me .0)
-        → JudgeGiven g c wanted plain (now (commits .entry)) → KeepsVerdicts fs (now (verdicts .entry))
+        → JudgeGiven g c wanted plain (now (commits .entry)) (now (verdicts .entry)) → KeepsVerdicts fs (now (verdicts .entry))
         → LateSays number g c fs (now (views .exit)) (now (seen .exit)) (now (verdicts .exit)) r)
         ⌝ }
 {

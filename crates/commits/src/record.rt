@@ -82,7 +82,7 @@ fn begin(
     Begun { outcome, ranks }
 }
 
-// A commit that is not refused before it is made: what clauses 3 to 8 want of the view before is gathered, it is made, its view after is tested (codes 10, 11
+// A commit that is not refused before it is made: what those of clauses 3 to 8 want of the view before that a level still asks for is gathered, it is made, its view after is tested (codes 10, 11
 // and 14), and the levels judge it. In the common case that the view after is the view before and the commit's own versions, no search is made in it.
 fn complete(
     number: usize,
@@ -112,7 +112,7 @@ fn complete(
         ⌝ }
 {
     let plain = views::masks::adds_own(fresh, views, state::PER_CLIENT * client, keys, ranks, n);
-    let wanted = verdicts::clauses::wanted(keys, commits, links, seen[client], ranks, n);
+    let wanted = verdicts::clauses::wanted(keys, commits, links, verdicts, seen[client], ranks, n);
     making::make(
         versions,
         keys,

@@ -6,6 +6,7 @@ use Rattle.store.specs.Store.{Configuration, Commit}
 use Rattle.store.specs.Update.{viewBefore}
 use Rattle.store.specs.History.{history, held}
 use Rattle.state.specs.Keeps.{IsSet, KeepsMasks, KeepsOperations}
+use Rattle.verdicts.specs.Verdicts.{Live}
 use Rattle.verdicts.specs.Wants.{Wants}
 use Rattle.trial.specs.declared.Trial.{Trial}
 
@@ -15,3 +16,4 @@ pub record TriedAs (g : Configuration) (c : Commit) (n : ℕ) (masks : List ℕ)
   pub view-after : KeepsMasks n (c .viewAfter) masks
   pub holds : IsSet (r .tried .seen) (Holds (history (g .store)) (held (viewBefore g c)))
   pub wants : Wants (g .store) (viewBefore g c) c (r .tried .wanted)
+  pub asked : (verdicts : List ℕ) → Live verdicts (r .tried .wanted .live)

@@ -29,7 +29,7 @@ ghost use Rattle.state.specs.Keeps.{IsSet, KeepsVersions, KeepsKeys, KeepsCommi
 ghost use Rattle.state.specs.Rows.{RowAt};
 ghost use Rattle.views.specs.Rules.{StoreAndView};
 ghost use Rattle.verdicts.specs.Wants.{Wants};
-ghost use Rattle.verdicts.specs.Verdicts.{VerdictsRoom, KeepsVerdicts};
+ghost use Rattle.verdicts.specs.Verdicts.{VerdictsRoom, Live, KeepsVerdicts};
 
 // For each kind of link, the commits in which it may end: SO, WR (a reader of what was written), WW (the writer of a later version) and RW (the overwriter of
 // what was read).
@@ -69,6 +69,7 @@ pub fn wanted(
         → KeepsCommits s (now (commits .entry)) → RowAt n (now (views .entry)) base u → KeepsOperations c ranks values
         → IsSet (r .seen) (Holds (history s) (held u)) × Wants s u c (r .wanted))
         ⌝ }
+    ensures asked { λ r. ⌜ ((verdicts : List ℕ) → Live verdicts (r .wanted .live)) ⌝ }
 {
     let seen = gather::held(versions, keys, views, base, n);
     let lacking = gather::lacking(versions, keys, seen, n);
@@ -79,6 +80,7 @@ pub fn wanted(
     Tried {
         seen,
         wanted: Wanted {
+            live: verdicts::EVERY_CLAUSE,
             lacking,
             before: past.before,
             read: past.read,
@@ -110,7 +112,7 @@ pub fn judge(
         ((s : Store) (u : View) (c : Commit) (values : List ℕ) (fs : Level → Option Failure) → Made s u c → IsView (update s u c) (c .viewAfter) → nextNumber s ≡ me .0
         → ClientsFit s → c .client < maxClients → StoreAndView (update s u c) u n (now (versions .entry)) (now (keys .entry)) (now (views .entry)) base → KeepsCommits (update s u c) (now (commits .entry))
         → KeepsOperations c ranks values → KeepsMasks n (c .viewAfter) (now (fresh .entry)) → IsSet (tried .seen) (Holds (history s) (held u)) → Wants s u c (tried .wanted)
-        → KeepsVerdicts fs (now (verdicts .entry)) → KeepsVerdicts (λ l. orElse (fs l) (failsClauses number s u c (clausesOf l))) (now (verdicts .exit)))
+        → Live (now (verdicts .entry)) (tried .wanted .live) → KeepsVerdicts fs (now (verdicts .entry)) → KeepsVerdicts (λ l. orElse (fs l) (failsClauses number s u c (clausesOf l))) (now (verdicts .exit)))
         ⌝ }
 {
     let session = links::up_to(versions, keys, commits, n, me);

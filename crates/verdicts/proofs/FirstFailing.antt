@@ -19,7 +19,7 @@ use Rattle.store.specs.Store.{View, Store, nextNumber, Commit}
 use Rattle.store.specs.Missing.{Place}
 use Rattle.levels.specs.Clause.{Clause, monotonicReads, readYourWrites, monotonicWrites, writesFollowReads, updateAtomic, consistentPrefix, snapshotIsolation, serialisability, clauseNumber, missingBy}
 use Rattle.levels.specs.Level.{SER, levels, clausesOf, Failure, failure, failsClauses}
-use Rattle.verdicts.specs.Verdicts.{levelAt, numbersOf, FailingClauses}
+use Rattle.verdicts.specs.Verdicts.{levelAt, numbersOf, ClausesIn, Asked, Fails, FailingClauses}
 
 -- ---- numbers of clauses
 
@@ -96,44 +96,49 @@ levels-rise i = every-at (λ l. rising (clausesOf l)) levels SER tt tt i
 
 -- ---- the lowest failing clause of a list
 
-module _ (n : ℕ) (s : Store) (u : View) (c : Commit) (failing : Set) (h : FailingClauses s u c failing) where
-  -- a clause that is not in the set has nothing missing
-  nothing-missing : (x : Clause) → ¬ T (has failing (clauseNumber x)) → missingBy s u c x ≡ none
-  nothing-missing x t = go (missingBy s u c x) refl
+module _ (n : ℕ) (s : Store) (u : View) (c : Commit) (live failing : Set) (h : FailingClauses s u c live failing) where
+  -- a clause that is asked for and not in the set has nothing missing
+  nothing-missing : (x : Clause) → Asked live x → ¬ T (has failing (clauseNumber x)) → missingBy s u c x ≡ none
+  nothing-missing x a t = go (missingBy s u c x) refl
     where
       go : (o : Option Place) → missingBy s u c x ≡ o → missingBy s u c x ≡ none
       go none e = e
-      go (some p) e = absurd (t (h .is x .1 (λ z. some-none (sym e ∙ z))))
+      go (some p) e = absurd (t (h .is x .1 (a, λ z. some-none (sym e ∙ z))))
 
   -- one that is in it has the first failure of the lists that it starts
   starts : (x : Clause) → T (has failing (clauseNumber x)) → (rest : Option Failure)
       → orElse (mapSome (failure (nextNumber s) n x) (missingBy s u c x)) rest ≡ mapSome (failure (nextNumber s) n x) (missingBy s u c x)
   unfolding orElse mapSome
-  starts x t rest = go (missingBy s u c x) (h .is x .0 t)
+  starts x t rest = go (missingBy s u c x) (h .is x .0 t .1)
     where
       go : (o : Option Place) → ¬ (o ≡ none) → orElse (mapSome (failure (nextNumber s) n x) o) rest ≡ mapSome (failure (nextNumber s) n x) o
       go none e = absurd (e refl)
       go (some p) e = refl
 
-  skips : (x : Clause) → ¬ T (has failing (clauseNumber x)) → (rest : Option Failure) → orElse (mapSome (failure (nextNumber s) n x) (missingBy s u c x)) rest ≡ rest
+  skips : (x : Clause) → Asked live x → ¬ T (has failing (clauseNumber x)) → (rest : Option Failure) → orElse (mapSome (failure (nextNumber s) n x) (missingBy s u c x)) rest ≡ rest
   unfolding orElse mapSome
-  skips x t rest = rw (nothing-missing x t)
+  skips x a t rest = rw (nothing-missing x a t)
 
-  pub none-failing : (xs : List Clause) → ((j : ℕ) → T (has (numbersOf xs) j) → ¬ T (has failing j)) → failsClauses n s u c xs ≡ none
+  -- the clauses of a list are asked for
+  abbrev AllAsked : List Clause → Type 0
+  AllAsked xs = (j : ℕ) → T (has (numbersOf xs) j) → T (has live j)
+
+  pub none-failing : (xs : List Clause) → AllAsked xs → ((j : ℕ) → T (has (numbersOf xs) j) → ¬ T (has failing j)) → failsClauses n s u c xs ≡ none
   unfolding failsClauses numbersOf
-  none-failing [] f = refl
-  none-failing (x ∷ xs) f =
-      skips x (f (clauseNumber x) (insert-self (clauseNumber x) (numbersOf xs))) (failsClauses n s u c xs)
-      ∙ none-failing xs (λ j t. f j (has-insert (clauseNumber x) (numbersOf xs) j t))
+  none-failing [] a f = refl
+  none-failing (x ∷ xs) a f =
+      let self = insert-self (clauseNumber x) (numbersOf xs) in
+      skips x (a (clauseNumber x) self) (f (clauseNumber x) self) (failsClauses n s u c xs)
+      ∙ none-failing xs (λ j t. a j (has-insert (clauseNumber x) (numbersOf xs) j t)) (λ j t. f j (has-insert (clauseNumber x) (numbersOf xs) j t))
 
-  first-failing : (xs : List Clause) → T (rising xs) → (x : Clause) → T (has (numbersOf xs) (clauseNumber x)) → T (has failing (clauseNumber x))
+  first-failing : (xs : List Clause) → T (rising xs) → AllAsked xs → (x : Clause) → T (has (numbersOf xs) (clauseNumber x)) → T (has failing (clauseNumber x))
       → ((j : ℕ) → T (has (numbersOf xs) j) → T (has failing j) → clauseNumber x ≤ j)
       → failsClauses n s u c xs ≡ mapSome (failure (nextNumber s) n x) (missingBy s u c x)
   unfolding failsClauses numbersOf rising
-  first-failing [] r x m t least = absurd (has-none (clauseNumber x) m)
-  first-failing (y ∷ ys) r x m t least =
+  first-failing [] r a x m t least = absurd (has-none (clauseNumber x) m)
+  first-failing (y ∷ ys) r a x m t least =
       go (T? (has failing (clauseNumber y))) (insert-has (clauseNumber y) (numbersOf ys) (clauseNumber x) m)
-      (λ z. first-failing ys (and-right (below-all (clauseNumber y) ys) (rising ys) r) x z t (λ j w v. least j (has-insert (clauseNumber y) (numbersOf ys) j w) v))
+      (λ z. first-failing ys (and-right (below-all (clauseNumber y) ys) (rising ys) r) (λ j w. a j (has-insert (clauseNumber y) (numbersOf ys) j w)) x z t (λ j w v. least j (has-insert (clauseNumber y) (numbersOf ys) j w) v))
     where
       later : (j : ℕ) → T (has (numbersOf ys) j) → clauseNumber y < j
       later = below-all-out (clauseNumber y) ys (and-left (below-all (clauseNumber y) ys) (rising ys) r)
@@ -147,16 +152,16 @@ module _ (n : ℕ) (s : Store) (u : View) (c : Commit) (failing : Set) (h : Fail
           let l′ : clauseNumber x ≤ clauseNumber y = least (clauseNumber y) (insert-self (clauseNumber y) (numbersOf ys)) f in
           absurd (omega arith)
       go (no f) (inr e) ih = absurd (f (subst (λ (j : ℕ). T (has failing j)) e t))
-      go (no f) (inl z) ih = skips y f (failsClauses n s u c ys) ∙ ih z
+      go (no f) (inl z) ih = skips y (a (clauseNumber y) (insert-self (clauseNumber y) (numbersOf ys))) f (failsClauses n s u c ys) ∙ ih z
 
   -- a level none of whose clauses is in the set does not fail
-  pub level-passes : (i : ℕ) → bitAnd (numbersOf (clausesOf (levelAt i))) failing ≡ 0 → failsClauses n s u c (clausesOf (levelAt i)) ≡ none
-  level-passes i e = none-failing (clausesOf (levelAt i)) (λ j t f. has-none j (subst (λ (m : Set). T (has m j)) e (both-is (numbersOf (clausesOf (levelAt i))) failing j .1 (t, f))))
+  pub level-passes : (i : ℕ) → ClausesIn i live → bitAnd (numbersOf (clausesOf (levelAt i))) failing ≡ 0 → failsClauses n s u c (clausesOf (levelAt i)) ≡ none
+  level-passes i a e = none-failing (clausesOf (levelAt i)) a (λ j t f. has-none j (subst (λ (m : Set). T (has m j)) e (both-is (numbersOf (clausesOf (levelAt i))) failing j .1 (t, f))))
 
   -- and another fails by the clause of the lowest number in both sets
-  pub level-fails : (i : ℕ) (struck : Set) → struck ≡ bitAnd (numbersOf (clausesOf (levelAt i))) failing → 0 < struck → struck < 2 ^ 64
-      → (x : Clause) × (clauseNumber x ≡ lowest struck) × (failsClauses n s u c (clausesOf (levelAt i)) ≡ mapSome (failure (nextNumber s) n x) (missingBy s u c x))
-  level-fails i struck e p l = (x, q, first-failing xs (levels-rise i) x (rw q (inside .0)) (rw q (inside .1)) least)
+  pub level-fails : (i : ℕ) → ClausesIn i live → (struck : Set) → struck ≡ bitAnd (numbersOf (clausesOf (levelAt i))) failing → 0 < struck → struck < 2 ^ 64
+      → (x : Clause) × (clauseNumber x ≡ lowest struck) × Fails s u c live x × (failsClauses n s u c (clausesOf (levelAt i)) ≡ mapSome (failure (nextNumber s) n x) (missingBy s u c x))
+  level-fails i a struck e p l = (x, q, h .is x .0 (rw q (inside .1)), first-failing xs (levels-rise i) a x (rw q (inside .0)) (rw q (inside .1)) least)
     where
       xs : List Clause
       xs = clausesOf (levelAt i)

@@ -1,5 +1,6 @@
 pub mod TableOfLevels
 pub mod FirstFailing
+pub mod Asked
 pub mod OnSets
 pub mod ByClause
 pub mod Searches

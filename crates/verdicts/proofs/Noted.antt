@@ -17,7 +17,7 @@ use Rattle.levels.specs.Level.{Level, clausesOf, Failure, failure, failsClauses
 use Rattle.state.specs.declared.Found.{Found}
 use Rattle.state.specs.declared.Found.the-variants.{At, Nothing}
 use Rattle.state.specs.Answers.{placeOf}
-use Rattle.verdicts.specs.Verdicts.{levelCount, levelAt, numbersOf, recordPlace, keyPlace, versionPlace, VerdictsRoom, KeepsVerdict, KeepsVerdicts, FailingClauses, writtenDown, NotesLevel}
+use Rattle.verdicts.specs.Verdicts.{levelCount, levelAt, numbersOf, recordPlace, keyPlace, versionPlace, VerdictsRoom, KeepsVerdict, KeepsVerdicts, ClausesIn, Live, Fails, FailingClauses, writtenDown, NotesLevel}
 use Rattle.verdicts.proofs.FirstFailing.{number-range, level-fails}
 
 -- ---- four words
@@ -123,23 +123,28 @@ failed v i none new h n = absurd (n h)
 failed v i (some f) new h n = refl
 
 pub keeps-failure : (v : List ℕ) (i : ℕ) (new : Option Failure) → getD v i 0 ≢ 0 → NotesLevel i new v v
-keeps-failure v i new n = record { here = λ old h. rw (failed v i old new h n) h; there = λ j l d old h. h }
+keeps-failure v i new n = record { here = λ old h. rw (failed v i old new h n) h; there = λ j l d old h. h; stays-failed = λ j l e. e }
 
 pub nothing-new : (v : List ℕ) (i : ℕ) {new : Option Failure} → new ≡ none → NotesLevel i new v v
-nothing-new v i {new} e = rw e (record { here = λ old h. rw (orElse-end old) h; there = λ j l d old h. h })
+nothing-new v i {new} e = rw e (record { here = λ old h. rw (orElse-end old) h; there = λ j l d old h. h; stays-failed = λ j l e. e })
 
-pub takes-failure : (n : ℕ) (s : Store) (u : View) (c : Commit) (failing : Set) → FailingClauses s u c failing → (i : ℕ) → i < levelCount
+pub takes-failure : (n : ℕ) (s : Store) (u : View) (c : Commit) (live failing : Set) → FailingClauses s u c live failing → (i : ℕ) → i < levelCount → ClausesIn i live
     → {struck clause : ℕ} (f : Found) {before after : List ℕ} → VerdictsRoom before → getD before i 0 ≡ 0
     → struck ≡ bitAnd (numbersOf (clausesOf (levelAt i))) failing → 0 < struck → struck < 2 ^ 64 → clause ≡ lowest struck
-    → ((x : Clause) → clauseNumber x ≡ clause → placeOf f ≡ missingBy s u c x) → after ≡ writtenDown before i clause n f
+    → ((x : Clause) → clauseNumber x ≡ clause → Fails s u c live x → placeOf f ≡ missingBy s u c x) → after ≡ writtenDown before i clause n f
     → NotesLevel i (failsClauses n s u c (clausesOf (levelAt i))) before after
-takes-failure n s u c failing h i l {struck} {clause} f {before} {after} room e q p w m found is = record {
-  here = λ old k. rw (unfailed before i old (failsClauses n s u c (clausesOf (levelAt i))) k e, first .2, ← found x number, is, ← number) (this-level before i n (nextNumber s) x f room l e);
+takes-failure n s u c live failing h i l asked {struck} {clause} f {before} {after} room e q p w m found is = record {
+  here = λ old k. rw (unfailed before i old (failsClauses n s u c (clausesOf (levelAt i))) k e, first .3, ← found x number (first .2), is, ← number) (this-level before i n (nextNumber s) x f room l e);
   there = λ j b d old k. rw is (other-levels before i clause n f l j b d old k);
+  stays-failed = λ j b z. at j b z (ℕ-discrete j i);
 }
   where
-    first : (x : Clause) × (clauseNumber x ≡ lowest struck) × (failsClauses n s u c (clausesOf (levelAt i)) ≡ mapSome (failure (nextNumber s) n x) (missingBy s u c x))
-    first = level-fails n s u c failing h i struck q p w
+    first : (x : Clause) × (clauseNumber x ≡ lowest struck) × Fails s u c live x × (failsClauses n s u c (clausesOf (levelAt i)) ≡ mapSome (failure (nextNumber s) n x) (missingBy s u c x))
+    first = level-fails n s u c live failing h i asked struck q p w
+
+    at : (j : ℕ) → j < levelCount → getD after j 0 ≡ 0 → Dec (j ≡ i) → getD before j 0 ≡ 0
+    at j b z (yes x) = rw x e
+    at j b z (no x) = sym (rw is (other-words before i clause n f j x (λ y. omega arith) (λ y. omega arith) (λ y. omega arith))) ∙ z
 
     x : Clause
     x = first .0
@@ -167,6 +172,10 @@ noted-on {news} {l} {before} {between} {after} h m n = record {
     at : (i : ℕ) → i < l + 1 → (old : Option Failure) → KeepsVerdict before i old → Dec (i ≡ l) → KeepsVerdict after i (orElse old (news i))
     at i b old k (yes e) = rw e (n .here old (h .waits l m (omega arith) old (rw e at k)))
     at i b old k (no d) = n .there i (omega arith) d (orElse old (news i)) (h .done i (omega arith) old k)
+
+-- and no level that had failed is unfailed again
+pub live-on : {i : ℕ} {new : Option Failure} {before after : List ℕ} (live : Set) → NotesLevel i new before after → Live before live → Live after live
+live-on live n h j l e = h j l (n .stays-failed j l e)
 
 pub noted-all : (fails : Level → Option Failure) {l : ℕ} {before after : List ℕ} → Noted (λ i. fails (levelAt i)) l before after → levelCount ≤ l → VerdictsRoom after
     → (fs : Level → Option Failure) → KeepsVerdicts fs before → KeepsVerdicts (λ m. orElse (fs m) (fails m)) after

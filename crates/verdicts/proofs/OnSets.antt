@@ -1,13 +1,14 @@
 -- The sets of commits that the clauses want, from the arrays. Assumes nothing.
-use Prim.Native.Nat.{ℕ, _+_, _*_, _^_, _<_}
+use Prim.Native.Nat.{ℕ, _+_, _*_, _^_, _<_, _≤_}
 use mathlib.Core.Path.{_≡_, subst}
-use mathlib.Core.Logic.{_↔_}
+use mathlib.Core.Logic.{inl, inr, _↔_}
 use mathlib.Core.List.{List}
+use native.Mathlib.Omega.{arith}
 use lib.Dec.{T}
 use lib.ListN.{getD}
 use Rattle.search.proofs.Tests.{same}
-use Rattle.sets.specs.Set.{Set, has, without, width}
-use Rattle.sets.proofs.Laws.{has-none, has-lt}
+use Rattle.sets.specs.Set.{Set, has, without, width, single, lowest}
+use Rattle.sets.proofs.Laws.{has-none, has-lt, lowest-least}
 use Rattle.relations.specs.Relation.{Plus}
 use Rattle.dependencies.specs.History.{SO, Holds}
 use Rattle.store.specs.Store.{Key, CommitNumber, View, Store, Commit}
@@ -18,7 +19,9 @@ use Rattle.growth.specs.Made.{Writer}
 use Rattle.growth.specs.Links.{FromWrite}
 use Rattle.growth.specs.Sessions.{ReadUpTo}
 use Rattle.growth.specs.Views.{Lacking}
-use Rattle.growth.specs.Clauses.{LeadsToHeld}
+use Rattle.growth.specs.Clauses.{LeadsToHeld, LacksOneOf}
+use Rattle.growth.specs.Ordered.{Ordered}
+use Rattle.growth.proofs.Ordered.{SO-rises, WR-rises}
 use Rattle.state.specs.Places.{numbers, beforePlace, readPlace}
 use Rattle.state.specs.Rows.{InRows}
 use Rattle.state.specs.Keeps.{IsSet, KeepsKeys, KeepsCommits, KeepsOperations, Step}
@@ -58,6 +61,27 @@ module _ (s : Store) (u : View) (seen : Set) (h : IsSet seen (Holds (history s) 
   pub read-is : (commits : List ℕ) (r : ℕ) → seen < 2 ^ 64 → KeepsCommits s commits → IsSet r (InRows commits (readPlace 0) seen) → IsSet r (LeadsToHeld s u (ReadUpTo (history s)))
   read-is commits r l kept = rows-are (ReadUpTo (history s)) commits (readPlace 0) r l (kept .read)
 
+  -- links that lead from smaller numbers to larger lead from nothing that is lacking to what the view holds, where that is below all of it
+  rising-held : (R : ℕ → ℕ → Type 0) → ((a t : CommitNumber) → R a t → a < t) → (lacking : Set) → IsSet lacking (Lacking s u) → 0 < lacking → lacking < 2 ^ 64
+      → seen < single (lowest lacking) → ¬ LacksOneOf s u (LeadsToHeld s u R)
+  rising-held R rises lacking is p l b (a, (t, x, r), y) =
+      let low : t < lowest lacking = has-lt (lowest lacking) seen t b (h t .1 x) in
+      let high : lowest lacking ≤ a = lowest-least lacking p l a (is a .1 y) in
+      let up : a < t = rises a t r in
+      omega arith
+
+  -- so do SO, and what was read by a commit or by one before it in SO
+  pub past-held : SoundStore s → Ordered s → (lacking : Set) → IsSet lacking (Lacking s u) → 0 < lacking → lacking < 2 ^ 64 → seen < single (lowest lacking)
+      → (¬ LacksOneOf s u (LeadsToHeld s u (SO (history s)))) × (¬ LacksOneOf s u (LeadsToHeld s u (ReadUpTo (history s))))
+  past-held sound o lacking is p l b = (
+    rising-held (SO (history s)) (SO-rises s sound o) lacking is p l b,
+    rising-held (ReadUpTo (history s)) read-rises lacking is p l b,
+  )
+    where
+      read-rises : (a t : CommitNumber) → ReadUpTo (history s) a t → a < t
+      read-rises a t (r, inl e, w) = let x : a < r = WR-rises s sound o a r w in omega arith
+      read-rises a t (r, inr q, w) = let x : a < r = WR-rises s sound o a r w in let y : r < t = SO-rises s sound o r t q in omega arith
+
   -- the writers of the keys written
   pub written-is : (c : Commit) (keys : List ℕ) (ranks : Set) (values : List ℕ) (n r : ℕ) → s .keys ≡ n → SoundStore s → KeepsKeys s keys → KeepsOperations c ranks values
       → IsSet r (InKeys keys ranks n) → IsSet r (FromWrite s c)
@@ -71,15 +95,14 @@ module _ (s : Store) (u : View) (seen : Set) (h : IsSet seen (Holds (history s) 
   leading-is kind r = isSet-as r (λ a. (λ (t, x, y). (t, h t .0 x, y), λ (t, x, y). (t, h t .1 x, y)))
 
 -- where nothing is lacking nothing is asked
-pub wants-nothing : (s : Store) (u : View) (c : Commit) (lacking : Set) → IsSet lacking (Lacking s u) → lacking ≡ 0
-    → Wants s u c (record { lacking = 0; before = 0; read = 0; written = 0; prefix = 0; snapshot = 0 })
-wants-nothing s u c lacking h e = record {
+pub wants-nothing : (s : Store) (u : View) (c : Commit) (live lacking : Set) → IsSet lacking (Lacking s u) → lacking ≡ 0
+    → Wants s u c (record { live = live; lacking = 0; before = 0; read = 0; written = 0; prefix = 0; snapshot = 0 })
+wants-nothing s u c live lacking h e = record {
   lacking = zero;
-  before = λ x. absurd (none x);
-  read = λ x. absurd (none x);
-  written = λ x. absurd (none x);
-  prefix = λ x. absurd (none x);
-  snapshot = λ x. absurd (none x);
+  past = λ a x. absurd (none x);
+  written = λ a x. absurd (none x);
+  prefix = λ a x. absurd (none x);
+  snapshot = λ a x. absurd (none x);
 }
   where
     zero : IsSet 0 (Lacking s u)

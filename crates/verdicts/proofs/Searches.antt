@@ -40,6 +40,7 @@ use Rattle.state.proofs.Sets.{isSet-union}
 use Rattle.views.specs.Rules.{byWriter, byReader, ofWritten}
 use Rattle.views.proofs.Words.{meets-is}
 use Rattle.verdicts.specs.Wants.{LacksSome}
+use Rattle.verdicts.specs.Verdicts.{Fails}
 use Rattle.store.proofs.Misses.{Misses, missing-same, missing-agree}
 use Rattle.verdicts.proofs.OnSets.{writes-ranked}
 use Rattle.verdicts.proofs.FirstFailing.{same-clause}
@@ -200,6 +201,9 @@ module _ (s : Store) (u : View) (c : Commit) (made : Made s u c) where
 pub at-clause : (s : Store) (u : View) (c : Commit) (y x : Clause) {clause : ℕ} {p : Option Place} → clauseNumber x ≡ clause → clause ≡ clauseNumber y
     → p ≡ missingBy s u c y → p ≡ missingBy s u c x
 at-clause s u c y x e f h = h ∙ ap (missingBy s u c) (sym (same-clause x y (e ∙ f)))
+
+pub as-clause : (s : Store) (u : View) (c : Commit) (live : Set) (x y : Clause) → clauseNumber x ≡ clauseNumber y → Fails s u c live x → Fails s u c live y
+as-clause s u c live x y e = subst (Fails s u c live) (same-clause x y e)
 
 -- the last one is what none of the others is
 pub last-clause : (x : Clause) {n : ℕ} → clauseNumber x ≡ n → n ≢ 1 → n ≢ 2 → n ≢ 3 → n ≢ 4 → n ≢ 5 → n ≢ 6 → n ≢ 7 → n ≡ clauseNumber serialisability

@@ -20,9 +20,14 @@ pub const VERSIONS: usize = 3 * LEVELS;
 
 pub const WORDS: usize = 4 * LEVELS;
 
-// The commits of which the view holds nothing, and where there are any the commits that the clauses want: those before what the view holds in SO
-// (clause 3), those from which it was read (4), the writers of the keys written (5), and those that lead to it (6 and 7).
+// The numbers of all eight clauses, as a set.
+pub const EVERY_CLAUSE: u64 = 510;
+
+// The clauses that some level still asks for; the commits of which the view holds nothing, and where there are any the commits that those clauses want: those
+// before what the view holds in SO (clause 3), those from which it was read (4), the writers of the keys written (5), and those that lead to it (6 and 7).
+// What is wanted by a clause that no level asks for is not gathered.
 pub struct Wanted {
+    pub live: u64,
     pub lacking: u64,
     pub before: u64,
     pub read: u64,

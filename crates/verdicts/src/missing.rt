@@ -10,8 +10,9 @@ ghost use Rattle.levels.specs.Clause.{Clause, clauseNumber, missingBy};
 ghost use Rattle.state.specs.Room.{VersionsRoom, KeysRoom, FreshRoom};
 ghost use Rattle.state.specs.Answers.{placeOf};
 ghost use Rattle.verdicts.specs.AtHand.{Judging};
+ghost use Rattle.verdicts.specs.Verdicts.{Fails};
 
-// The first version that the clause of this number misses. The arrays keep the store after the commit: clause 2 is about this store and the view after; the
+// The first version that the clause of this number misses, where it is asked for and fails. The arrays keep the store after the commit: clause 2 is about this store and the view after; the
 // others are about the store before, and the search is for versions by commits of which the view before holds nothing, so not by the commit itself.
 pub fn missing_by(
     clause: usize,
@@ -24,7 +25,7 @@ pub fn missing_by(
     n: usize,
 ) -> state::Found
     requires { ⌜ (n ≤ maxKeys) × VersionsRoom (now versions) × KeysRoom (now keys) × (base + n ≤ length (now views)) × FreshRoom (now fresh) ⌝ }
-    ensures { λ r. ⌜ ((s : Store) (u : View) (c : Commit) (values : List ℕ) → Judging s u c h values (now (versions .entry)) (now (keys .entry)) (now (views .entry)) (now (fresh .entry)) base n → (x : Clause) → clauseNumber x ≡ clause → placeOf r ≡ missingBy s u c x) ⌝ }
+    ensures { λ r. ⌜ ((s : Store) (u : View) (c : Commit) (values : List ℕ) → Judging s u c h values (now (versions .entry)) (now (keys .entry)) (now (views .entry)) (now (fresh .entry)) base n → (x : Clause) → clauseNumber x ≡ clause → Fails s u c (h .wanted .live) x → placeOf r ≡ missingBy s u c x) ⌝ }
 {
     let w = h.wanted;
     match clause {

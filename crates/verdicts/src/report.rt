@@ -11,14 +11,14 @@ ghost use mathlib.Core.Path.{_≡_};
 ghost use mathlib.Core.Option.{Option};
 ghost use mathlib.Core.List.{List};
 ghost use Prim.Native.Nat.{ℕ, _+_, _<_, _≤_};
-ghost use lib.ListN.{length};
+ghost use lib.ListN.{length, getD};
 ghost use Rattle.search.specs.Choose.{orElse};
 ghost use Rattle.store.specs.Limits.{maxKeys, numbers};
 ghost use Rattle.store.specs.Store.{Store, View, Commit};
 ghost use Rattle.levels.specs.Level.{Level, clausesOf, Failure, failsClauses};
 ghost use Rattle.state.specs.Room.{VersionsRoom, KeysRoom, CommitsRoom, FreshRoom};
 ghost use Rattle.verdicts.specs.AtHand.{Judging, AfterCommit};
-ghost use Rattle.verdicts.specs.Verdicts.{levelCount, levelAt, VerdictsRoom, FailingClauses, writtenDown, NotesLevel, KeepsVerdicts};
+ghost use Rattle.verdicts.specs.Verdicts.{levelCount, levelAt, clausePlace, VerdictsRoom, ClausesIn, Live, FailingClauses, writtenDown, NotesLevel, KeepsVerdicts};
 
 // What a search by a clause found for a level.
 fn write_down(verdicts: &mut [u64], level: usize, clause: usize, number: usize, at: state::Found)
@@ -51,7 +51,7 @@ fn note_level(
     n: usize,
 )
     requires { ⌜ VerdictsRoom (now verdicts) × (level < levelCount) × (n ≤ maxKeys) × VersionsRoom (now versions) × KeysRoom (now keys) × (base + n ≤ length (now views)) × FreshRoom (now fresh) ⌝ }
-    ensures { λ _. ⌜ ((s : Store) (u : View) (c : Commit) (values : List ℕ) → Judging s u c h values (now (versions .entry)) (now (keys .entry)) (now (views .entry)) (now (fresh .entry)) base n → FailingClauses s u c failing → NotesLevel level (failsClauses number s u c (clausesOf (levelAt level))) (now (verdicts .entry)) (now (verdicts .exit))) ⌝ }
+    ensures { λ _. ⌜ ((s : Store) (u : View) (c : Commit) (values : List ℕ) → Judging s u c h values (now (versions .entry)) (now (keys .entry)) (now (views .entry)) (now (fresh .entry)) base n → FailingClauses s u c (h .wanted .live) failing → (getD (now (verdicts .entry)) (clausePlace level) 0 ≡ 0 → ClausesIn level (h .wanted .live)) → NotesLevel level (failsClauses number s u c (clausesOf (levelAt level))) (now (verdicts .entry)) (now (verdicts .exit))) ⌝ }
 {
     if verdicts[level] != 0 {
         return;
@@ -65,7 +65,7 @@ fn note_level(
     write_down(verdicts, level, clause, number, at);
 }
 
-// All levels, after a commit, of the record of that number, that fails the clauses of the set.
+// All levels, after a commit, of the record of that number, that fails the clauses of the set among those that are asked for.
 pub fn note(
     verdicts: &mut [u64],
     failing: u64,
@@ -79,7 +79,7 @@ pub fn note(
     n: usize,
 )
     requires { ⌜ VerdictsRoom (now verdicts) × (n ≤ maxKeys) × VersionsRoom (now versions) × KeysRoom (now keys) × (base + n ≤ length (now views)) × FreshRoom (now fresh) ⌝ }
-    ensures { λ _. ⌜ ((s : Store) (u : View) (c : Commit) (values : List ℕ) (fs : Level → Option Failure) → Judging s u c h values (now (versions .entry)) (now (keys .entry)) (now (views .entry)) (now (fresh .entry)) base n → FailingClauses s u c failing → KeepsVerdicts fs (now (verdicts .entry)) → KeepsVerdicts (λ l. orElse (fs l) (failsClauses number s u c (clausesOf l))) (now (verdicts .exit))) ⌝ }
+    ensures { λ _. ⌜ ((s : Store) (u : View) (c : Commit) (values : List ℕ) (fs : Level → Option Failure) → Judging s u c h values (now (versions .entry)) (now (keys .entry)) (now (views .entry)) (now (fresh .entry)) base n → FailingClauses s u c (h .wanted .live) failing → Live (now (verdicts .entry)) (h .wanted .live) → KeepsVerdicts fs (now (verdicts .entry)) → KeepsVerdicts (λ l. orElse (fs l) (failsClauses number s u c (clausesOf l))) (now (verdicts .exit))) ⌝ }
 {
     let mut level: usize = 0;
     while level < crate::LEVELS {
@@ -101,8 +101,8 @@ pub fn note(
 }
 
 // Judges a commit that is made: the arrays keep the store after it, the view before stands in `views` from `base` on, the view after in `fresh`, and `number` is
-// the record's. `w` are the commits that clauses 3 to 8 want of the view before. Where the view after is `plain`, the view before and the commit's own
-// versions, clause 1 misses nothing.
+// the record's. `w` are the commits that clauses 3 to 8 want of the view before, as far as they are asked for. Where the view after is `plain`, the view before
+// and the commit's own versions, clause 1 misses nothing; where besides nothing is lacking, no clause does.
 pub fn judge(
     verdicts: &mut [u64],
     number: usize,
@@ -120,8 +120,13 @@ pub fn judge(
     me: CommitNumber,
 )
     requires { ⌜ VerdictsRoom (now verdicts) × (n ≤ maxKeys) × (me .0 < numbers) × VersionsRoom (now versions) × KeysRoom (now keys) × CommitsRoom (now commits) × (base + n ≤ length (now views)) × FreshRoom (now fresh) ⌝ }
-    ensures { λ _. ⌜ ((s : Store) (u : View) (c : Commit) (values : List ℕ) (fs : Level → Option Failure) → AfterCommit s u c w held (now (versions .entry)) (now (keys .entry)) (now (commits .entry)) (now (views .entry)) (now (fresh .entry)) values ranks plain base n (me .0) → KeepsVerdicts fs (now (verdicts .entry)) → KeepsVerdicts (λ l. orElse (fs l) (failsClauses number s u c (clausesOf l))) (now (verdicts .exit))) ⌝ }
+    ensures { λ _. ⌜ ((s : Store) (u : View) (c : Commit) (values : List ℕ) (fs : Level → Option Failure) → AfterCommit s u c w held (now (versions .entry)) (now (keys .entry)) (now (commits .entry)) (now (views .entry)) (now (fresh .entry)) values ranks plain base n (me .0) → Live (now (verdicts .entry)) (w .live) → KeepsVerdicts fs (now (verdicts .entry)) → KeepsVerdicts (λ l. orElse (fs l) (failsClauses number s u c (clausesOf l))) (now (verdicts .exit))) ⌝ }
 {
+    if plain {
+        if w.lacking == 0 {
+            return;
+        }
+    }
     let mut lost = state::Found::Nothing;
     if !plain {
         lost = views::masks::lost(fresh, views, base, n);

@@ -8,7 +8,7 @@ use native.Mathlib.Omega.{arith}
 use native.Mathlib.Decide.{decLt}
 use native.Mathlib.Nat.{mod-eq-of-lt}
 use lib.Dec.{T, eqb, T-not}
-use lib.Bits.{bitOr, bitXor, or-add-and, xor-add-and, xor-self, and-le-l, and-le-r, or-zero-l}
+use lib.Bits.{bitOr, bitXor}
 use lib.ListN.{getD}
 use lib.Pow.{pow-pos}
 use borrow.Author.Count.{below-more}
@@ -27,17 +27,10 @@ use Rattle.state.specs.Keeps.{IsSet, KeepsKeys, KeepsMasks, KeepsOperations}
 use Rattle.state.proofs.Sets.{isSet-as, isSet-none, isSet-single, isSet-union}
 use Rattle.state.specs.Rows.{RowAt}
 use Rattle.views.specs.Own.{AddsOwn, ownMask}
-use Rattle.views.proofs.Tests.{has-as}
+use Rattle.views.proofs.Tests.{has-as, xor-zero, union-zero}
 use Rattle.state.proofs.Ranks.{writes-rank}
 
 -- ---- the test in words
-
--- `a ^ b` is 0 where the words are equal
-xor-zero : (a b : ℕ) → (bitXor a b ≡ 0) ↔ (a ≡ b)
-xor-zero a b = (
-  λ e. omega (arith, xor-add-and a b, and-le-l a b, and-le-r a b),
-  λ e. ap (λ (x : ℕ). bitXor x b) e ∙ xor-self b,
-)
 
 -- the version that is appended, as the code chooses it
 module _ (full ranks k : ℕ) {own : Set} {written : Bool} (w : written ≡ has ranks (2 * k + 1)) where
@@ -53,13 +46,6 @@ module _ (full ranks k : ℕ) {own : Set} {written : Bool} (w : written ≡ has 
 pub apart-is : (mask view : Set) {own : Set} {x : Set} → own ≡ x → (bitXor mask (bitOr view own) ≡ 0) ↔ (mask ≡ union view x)
 unfolding union
 apart-is mask view {own} e = rw (← e) (xor-zero mask (bitOr view own))
-
-union-zero : (a b : Set) → (union a b ≡ 0) ↔ ((a ≡ 0) × (b ≡ 0))
-unfolding union
-union-zero a b = (
-  λ e. (omega (arith, or-add-and a b, and-le-l a b, and-le-r a b), omega (arith, or-add-and a b, and-le-l a b, and-le-r a b)),
-  λ (e, f). ap (λ (x : ℕ). bitOr x b) e ∙ or-zero-l b ∙ f,
-)
 
 -- for proofs alone: at each key below n the mask is the one at `base` and the version that is appended
 unfoldable pub OwnBelow : List ℕ → List ℕ → ℕ → List ℕ → Set → ℕ → Type 0

@@ -1,20 +1,20 @@
 -- Masks that hold, of each key, all versions up to some: what the code finds of them is what they hold and lack. Assumes nothing.
 use Prim.Native.Nat.{ℕ, _+_, _-_, _%_, _^_, _≤_, _<_}
 use mathlib.Core.Path.{_≡_, refl, sym, ap, _∙_, subst}
-use mathlib.Core.Bool.{true, false, _||_}
+use mathlib.Core.Bool.{true}
 use mathlib.Core.Option.{none}
 use mathlib.Core.List.{List}
 use native.Mathlib.Omega.{arith}
-use native.Mathlib.Decide.{ℕ-discrete, decLt}
+use native.Mathlib.Decide.{decLt}
 use native.Mathlib.Nat.{mod-eq-of-lt}
 use lib.Dec.{T, eqb, eqb→eq}
 use lib.Bits.{bitAnd, and-comm}
 use lib.Pow.{pow-pos}
 use lib.ListN.{getD}
-use Rattle.search.proofs.Tests.{stable, true-T, T-false, false-T, same-test, or-left, or-right}
-use Rattle.sets.specs.Set.{Set, has, single, below, union, without, highest, lowest, width}
+use Rattle.search.proofs.Tests.{stable, true-T, same-test}
+use Rattle.sets.specs.Set.{Set, has, single, below, without, highest, lowest, width}
 use Rattle.sets.proofs.Laws.{has-none, has-large, has-below, below-has, has-lowest, has-highest, highest-most, single-only}
-use Rattle.sets.proofs.Algebra.{has-union, both-is, subset-is, same-sets, empty-is}
+use Rattle.sets.proofs.Algebra.{both-is, subset-is, same-sets}
 use Rattle.sets.proofs.Words.{and-pred}
 use Rattle.dependencies.specs.History.{Holds}
 use Rattle.store.specs.Store.{Key, CommitNumber, View, Store, count, version}
@@ -54,17 +54,6 @@ downward m l e = go (decLt (m + 1) (2 ^ 64))
     go (no x) = let q : m ≡ below width = omega arith in subst (λ (y : ℕ). Downward y) (sym q) (below-downward width)
 
 -- ---- the masks passed by a loop
-
-pub gaps-more : (fresh : List ℕ) (k found b : ℕ) {next : ℕ} → (found ≡ 0 → (q : ℕ) → q < k → Downward (getD fresh q 0)) → (b ≡ 0 → Downward (getD fresh k 0)) → next ≡ union found b
-    → next ≡ 0 → (q : ℕ) → q < k + 1 → Downward (getD fresh q 0)
-gaps-more fresh k found b h d e z q l = go (ℕ-discrete q k)
-  where
-    empty : (i : ℕ) → has found i || has b i ≡ false
-    empty i = sym (has-union found b i) ∙ ap (λ (m : ℕ). has m i) (sym e ∙ z) ∙ T-false _ (has-none i)
-
-    go : Dec (q ≡ k) → Downward (getD fresh q 0)
-    go (yes x) = subst (λ (j : ℕ). Downward (getD fresh j 0)) (sym x) (d (empty-is b .1 (λ i t. false-T _ (empty i) (or-right (has found i) (has b i) t))))
-    go (no x) = h (empty-is found .1 (λ i t. false-T _ (empty i) (or-left (has found i) (has b i) t))) q (omega arith)
 
 pub no-gaps : (m : ℕ) → eqb m 0 ≡ true → m ≡ 0
 no-gaps m e = eqb→eq m 0 (true-T _ e)

@@ -117,8 +117,7 @@ fn grown(
 }
 
 // Code 11, where code 10 is not due, and the commits of which the masks hold a version: by difference from the client's view at `base`, where the masks hold all of
-// it, and else from the opening view. Three common cases are answered at once: all versions that there are, the client's view itself,
-// and all versions of each key up to some.
+// it, and else from the opening view. A common case is answered at once: all versions of each key up to some.
 pub fn viewed(
     versions: &[u64],
     keys: &[u64],
@@ -131,12 +130,6 @@ pub fn viewed(
     requires { ⌜ (1 ≤ n) × (n ≤ maxKeys) × VersionsRoom (now versions) × KeysRoom (now keys) × FreshRoom (now fresh) × (base + n ≤ length (now views)) ⌝ }
     ensures { λ r. ⌜ ((s : Store) (old u : View) → NewMasks s old u n (now (versions .entry)) (now (keys .entry)) (now (views .entry)) base seen (now (fresh .entry)) → badMask s u ≡ none → ViewedAs s u r) ⌝ }
 {
-    if masks::same(fresh, keys, 0, n) {
-        return Viewed::Holds(all_writers(keys, n));
-    }
-    if masks::same(fresh, views, base, n) {
-        return Viewed::Holds(seen);
-    }
     if prefix::prefixes(fresh, n) {
         let p = prefix::split(versions, keys, fresh, n);
         let held = p.held;

@@ -5,7 +5,7 @@ ghost use Prim.Native.Nat.{ℕ, _+_, _<_, _≤_};
 ghost use lib.Dec.{T};
 ghost use lib.ListN.{length, getD};
 ghost use mathlib.Core.List.{List};
-ghost use Rattle.sets.specs.Set.{union};
+ghost use Rattle.sets.specs.Set.{union, without};
 ghost use Rattle.store.specs.Limits.{maxKeys, maxCommits, numbers};
 ghost use Rattle.store.specs.Store.{View, Store, Commit};
 ghost use Rattle.store.specs.Missing.{missing};
@@ -21,11 +21,32 @@ ghost use Rattle.views.specs.Rows.{Moved, Kept};
 ghost use Rattle.views.specs.Strays.{strays};
 ghost use Rattle.views.specs.Own.{AddsOwn, ownMask};
 
-// Code 10: the least key whose mask lacks version 0 or holds a version that does not exist.
+// What is wrong with some mask, by code 10; 0 where nothing is. All keys are looked at, with no branch.
+fn wrong(fresh: &[u64], keys: &[u64], n: usize) -> u64
+    requires { ⌜ (n ≤ maxKeys) × FreshRoom (now fresh) × KeysRoom (now keys) ⌝ }
+    ensures { λ r. ⌜ (r ≡ 0 → (k : ℕ) → k < n → (without 1 (getD (now (fresh .entry)) k 0) ≡ 0) × (without (getD (now (fresh .entry)) k 0) (getD (now (keys .entry)) k 0) ≡ 0)) ⌝ }
+{
+    let mut all = 0u64;
+    let mut k: usize = 0;
+    while k < n {
+        let mask = fresh[k];
+        all = sets::union(
+            all,
+            sets::union(sets::without(1, mask), sets::without(mask, keys[k])),
+        );
+        k = k + 1;
+    }
+    all
+}
+
+// Code 10: the least key whose mask lacks version 0 or holds a version that does not exist. It is looked for only where some mask is wrong.
 pub fn bad_mask(fresh: &[u64], keys: &[u64], n: usize) -> state::FoundKey
     requires { ⌜ (n ≤ maxKeys) × FreshRoom (now fresh) × KeysRoom (now keys) ⌝ }
     ensures { λ r. ⌜ ((s : Store) (u : View) → s .keys ≡ n → KeepsKeys s (now (keys .entry)) → KeepsMasks n u (now (fresh .entry)) → keyOf r ≡ badMask s u) ⌝ }
 {
+    if wrong(fresh, keys, n) == 0 {
+        return state::FoundKey::NoKey;
+    }
     let mut k: usize = 0;
     while k < n {
         let mask = fresh[k];
@@ -40,11 +61,29 @@ pub fn bad_mask(fresh: &[u64], keys: &[u64], n: usize) -> state::FoundKey
     state::FoundKey::NoKey
 }
 
-// Code 12 and clause 1: the least version of the view at `base` that the masks lack.
+// The versions of the view at `base` that the masks lack, of all keys together. All keys are looked at, with no branch.
+fn lacked(fresh: &[u64], views: &[u64], base: usize, n: usize) -> u64
+    requires { ⌜ (n ≤ maxKeys) × FreshRoom (now fresh) × (base + n ≤ length (now views)) ⌝ }
+    ensures { λ r. ⌜ (r ≡ 0 → (k : ℕ) → k < n → without (getD (now (views .entry)) (base + k) 0) (getD (now (fresh .entry)) k 0) ≡ 0) ⌝ }
+{
+    let mut all = 0u64;
+    let mut k: usize = 0;
+    while k < n {
+        let view = views[base + k];
+        all = sets::union(all, sets::without(view, fresh[k]));
+        k = k + 1;
+    }
+    all
+}
+
+// Code 12 and clause 1: the least version of the view at `base` that the masks lack. It is looked for only where there is one.
 pub fn lost(fresh: &[u64], views: &[u64], base: usize, n: usize) -> state::Found
     requires { ⌜ (n ≤ maxKeys) × FreshRoom (now fresh) × (base + n ≤ length (now views)) ⌝ }
     ensures { λ r. ⌜ ((s : Store) (old u : View) → s .keys ≡ n → IsView s old → RowAt n (now (views .entry)) base old → KeepsMasks n u (now (fresh .entry)) → placeOf r ≡ missing s (allOf old) u) ⌝ }
 {
+    if lacked(fresh, views, base, n) == 0 {
+        return state::Found::Nothing;
+    }
     let mut k: usize = 0;
     while k < n {
         let left = sets::without(views[base + k], fresh[k]);
@@ -85,19 +124,18 @@ pub fn stray(fresh: &[u64], views: &[u64], base: usize, ranks: u64, n: usize) ->
     state::FoundKey::NoKey
 }
 
-// Whether the masks are those at `base`.
+// Whether the masks are those at `base`. All keys are looked at, with no branch.
 pub fn same(fresh: &[u64], masks: &[u64], base: usize, n: usize) -> bool
     requires { ⌜ (n ≤ length (now fresh)) × (base + n ≤ length (now masks)) ⌝ }
     ensures { λ r. ⌜ T r ↔ ((k : ℕ) → k < n → getD (now (fresh .entry)) k 0 ≡ getD (now (masks .entry)) (base + k) 0) ⌝ }
 {
+    let mut all = 0u64;
     let mut k: usize = 0;
     while k < n {
-        if fresh[k] != masks[base + k] {
-            return false;
-        }
+        all = sets::union(all, fresh[k] ^ masks[base + k]);
         k = k + 1;
     }
-    true
+    all == 0
 }
 
 // Where a mask is not the view's with the version that is appended to key k; `full` is the key's mask before. The version's bit is one more than

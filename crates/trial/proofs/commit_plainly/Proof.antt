@@ -131,7 +131,7 @@ returns-2 c =
       kept = λ _. (
         kept,
         c .before .before .judge .ensures (g .store) (viewBefore g k) k (tried .operations .0) fs (made r number _ due) (view-after r number _ due) number fit (client-below r) (arrays r number _ due kept _ (omega arith))
-            (in-commits r number _ due kept) (tried .operations .1) (tried .view-after) (tried .holds) (tried .wants) verdicts,
+            (in-commits r number _ due kept) (tried .operations .1) (tried .view-after) (tried .holds) (tried .wants) (tried .asked (a .verdicts .now)) verdicts,
       );
     }
 

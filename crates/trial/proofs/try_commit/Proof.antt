@@ -41,12 +41,13 @@ returns c =
     λ g clients seen sessions links r fit number.
     let k = commitIn g (a .file .now) (a .at) (a .n) in
     let o = operations-read (k .operations) (a .n) (r .fits .rising) (taken .result) (filled valuesLength 0) values (taken .ensures .0) (taken .ensures .1 .0) k refl long no-value in
-    let found = c .wanted .ensures (g .store) (viewBefore g k) k values (r .keys-are) (r .sound .store) number fit (r .keeps .in-versions) (r .keeps .in-keys) (r .keeps .in-commits) (client-row r) o in
+    let found = c .wanted .ensures .0 (g .store) (viewBefore g k) k values (r .keys-are) (r .sound .store) number fit (r .keeps .in-versions) (r .keeps .in-keys) (r .keeps .in-commits) (client-row r) o in
     record {
       operations = (values, o);
       view-after = masks-filled _ _ _ _ masks wide (client-row r) (taken .ensures .1 .1);
       holds = found .0;
       wants = found .1;
+      asked = c .wanted .ensures .1;
     }
 
 pub try-commit-spec : {M : Type 1} → statement M

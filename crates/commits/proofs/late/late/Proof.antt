@@ -27,7 +27,7 @@ Given c g e values =
     LateGiven g e values (a .versions .now) (a .keys .now) (a .fresh .now) (a .views .now) (a .seen .now) (a .client) (a .ranks) (a .n) (a .me .0)
 
 abbrev Judged : tie.Start → Configuration → Commit → Type 0
-Judged c g e = let a = c .args in JudgeGiven g e (a .wanted) (a .plain) (a .commits .now)
+Judged c g e = let a = c .args in JudgeGiven g e (a .wanted) (a .plain) (a .commits .now) (a .verdicts .now)
 
 -- the commit's own number
 own-is : (c : tie.After-own-number) (g : Configuration) (e : Commit) (values : List ℕ) → Given (c .before .before .before .before .before .before .before .before) g e values → IsSet (c .own-number .result) (λ t. (t ≡ c .before .before .before .before .before .before .before .before .args .me .0) × Writes e)
@@ -99,7 +99,7 @@ returns-2 c =
       x .0,
       λ taken. (
         late-kept h (p .2) (p .1) _ (c .before .before .store-and-keep .ensures) (x .1),
-        noted g e _ fs (c .before .before .before .before .before .before .judge .ensures (g .store) (viewBefore g e) e values fs (after-commit h (p .2) _ j (own-is (c .before .before .before .before .before .before .before .before .before .before .before .before .before .before .before .before) g e values h) x) k),
+        noted g e _ fs (c .before .before .before .before .before .before .judge .ensures (g .store) (viewBefore g e) e values fs (after-commit h (p .2) _ j (own-is (c .before .before .before .before .before .before .before .before .before .before .before .before .before .before .before .before) g e values h) x) (j .asked) k),
       ),
     )
 

@@ -11,7 +11,7 @@ use Rattle.commits.proofs.record.complete.Tie as tie
 
 -- where the function begins, from where the commit is made
 abbrev entry : tie.After-make → tie.Start
-entry c = c .before .before .before .before .before .before .before .before .before .before .before .before .before .before .before .before .before .before .before .before .before .before .before .before .before
+entry c = c .before .before .before .before .before .before .before .before .before .before .before .before .before .before .before .before .before .before .before .before .before .before .before .before .before .before
 
 -- where it is, from where its view after was tested
 abbrev made : tie.After-late → tie.After-make
@@ -36,7 +36,7 @@ wanted-requires c κs = search needs
 
 make-requires : tie.Need-make-requires
 make-requires c κs =
-    let p = c .before .before .before .before .before .before .before .before .before .before .before .before .before .before .before .before .before .before .before .before .before .before .before .before .pre in
+    let p = c .before .before .before .before .before .before .before .before .before .before .before .before .before .before .before .before .before .before .before .before .before .before .before .before .before .pre in
     let room = p .1 in
     ((p .0 .1, p .0 .2, p .0 .3, room .of-versions, room .of-keys, room .of-views), (room .of-sessions, room .of-commits, room .of-links, p .0 .4))
 
@@ -76,9 +76,10 @@ returns c =
     λ g e clients fs ready verdicts.
     let keeps = ready .recorded .keeps in
     let kept = m .make .ensures (g .store) (viewBefore g e) e (commit-given ready) (ready .number-is) (ready .session-is) (keeps .in-commits) (keeps .in-links) in
-    let adds = plain-is ready (c .before .before .before .before .before .before .before .before .before .before .before .before .before .before .before .before .before .before .before .before .before .before .before .before .before .before .before .before .before .before .before .before .before .before .before .adds-own .result) (c .before .before .before .before .before .before .before .before .before .before .before .before .before .before .before .before .before .before .before .before .before .before .before .before .before .before .before .before .before .before .before .before .before .before .before .adds-own .ensures) in
-    let wants = wants-before ready (c .before .before .before .before .before .before .before .before .before .before .before .before .before .before .before .before .before .before .before .before .before .before .before .before .before .before .before .before .before .before .wanted .result) (c .before .before .before .before .before .before .before .before .before .before .before .before .before .before .before .before .before .before .before .before .before .before .before .before .before .before .before .before .before .before .wanted .ensures) in
-    let says = c .before .before .before .before .before .before .late .ensures g e (a .values .now) fs (late-given ready kept) (judge-given ready kept _ _ adds wants) verdicts in
+    let adds = plain-is ready (c .before .before .before .before .before .before .before .before .before .before .before .before .before .before .before .before .before .before .before .before .before .before .before .before .before .before .before .before .before .before .before .before .before .before .before .before .adds-own .result) (c .before .before .before .before .before .before .before .before .before .before .before .before .before .before .before .before .before .before .before .before .before .before .before .before .before .before .before .before .before .before .before .before .before .before .before .before .adds-own .ensures) in
+    let wanted = c .before .before .before .before .before .before .before .before .before .before .before .before .before .before .before .before .before .before .before .before .before .before .before .before .before .before .before .before .before .before .wanted in
+    let wants = wants-before ready (wanted .result) (wanted .ensures .1) in
+    let says = c .before .before .before .before .before .before .late .ensures g e (a .values .now) fs (late-given ready kept) (judge-given ready kept _ _ adds wants (wanted .ensures .0)) verdicts in
     record {
       answer = answered-late _ g e (ready .not-refused) _ (says .0);
       small = ready .operations .value-fits;

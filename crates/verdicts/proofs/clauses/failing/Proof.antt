@@ -1,4 +1,5 @@
 -- `verdicts::clauses::failing` meets its contract. Assumes nothing.
+use mathlib.Core.Path.{refl}
 use borrow.Author.Needs.{needs}
 use Rattle.verdicts.proofs.ByClause.{failing-is}
 use Rattle.verdicts.proofs.clauses.failing.Statement.{statement}
@@ -33,8 +34,8 @@ mark-requires-8 c κs = search needs
 
 returns : tie.Need-returns
 returns c = λ s u commit h.
-    failing-is s u commit (c .before .before .before .before .before .before .before .before .before .before .before .before .before .before .before .before .args .h) h _ _ _ _ _ _ _ _ _ (c .before .before .before .before .before .before .before .before .before .before .before .before .before .before .found .ensures)
-    (c .before .before .before .before .before .before .before .before .before .before .before .before .before .mark .ensures) (c .before .before .before .before .before .before .before .before .before .before .before .mark2 .ensures) (c .before .before .before .before .before .before .before .before .before .mark3 .ensures) (c .before .before .before .before .before .before .before .mark4 .ensures) (c .before .before .before .before .before .mark5 .ensures) (c .before .before .before .mark6 .ensures) (c .before .mark7 .ensures) (c .mark8 .ensures)
+    failing-is s u commit (c .before .before .before .before .before .before .before .before .before .before .before .before .before .before .before .before .before .args .h) h _ _ _ _ _ _ _ _ _ (c .before .before .before .before .before .before .before .before .before .before .before .before .before .before .before .found .ensures)
+    (c .before .before .before .before .before .before .before .before .before .before .before .before .before .before .mark .ensures) (c .before .before .before .before .before .before .before .before .before .before .before .before .mark2 .ensures) (c .before .before .before .before .before .before .before .before .before .before .mark3 .ensures) (c .before .before .before .before .before .before .before .before .mark4 .ensures) (c .before .before .before .before .before .before .mark5 .ensures) (c .before .before .before .before .mark6 .ensures) (c .before .before .mark7 .ensures) (c .before .mark8 .ensures) refl
 
 pub failing-spec : {M : Type 1} → statement M
 failing-spec =

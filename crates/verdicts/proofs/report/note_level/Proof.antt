@@ -16,7 +16,7 @@ slice-read-if1 : tie.Need-slice-read-if1
 slice-read-if1 c = search needs
 
 returns : tie.Need-returns
-returns c = λ s u commit values j h. keeps-failure _ _ _ (c .if1 .taken)
+returns c = λ s u commit values j h a. keeps-failure _ _ _ (c .if1 .taken)
 
 clauses-of-requires : tie.Need-clauses-of-requires
 clauses-of-requires c κs = search needs
@@ -24,9 +24,9 @@ clauses-of-requires c κs = search needs
 returns-2 : tie.Need-returns-2
 returns-2 c =
     let entry = c .before .before .before .before .before .before .before .before .before in
-    λ s u commit values j h.
+    λ s u commit values j h a.
     nothing-new _ _
-    (level-passes (entry .args .number) s u commit (entry .args .failing) h (entry .args .level)
+    (level-passes (entry .args .number) s u commit (entry .args .h .wanted .live) (entry .args .failing) h (entry .args .level) (a (search needs))
     (ap (λ (m : ℕ). bitAnd m (entry .args .failing)) (sym (c .before .clauses-of .ensures)) ∙ c .if2 .taken))
 
 lowest-requires : tie.Need-lowest-requires
@@ -44,8 +44,8 @@ same-length c = search needs
 returns-3 : tie.Need-returns-3
 returns-3 c =
     let entry = c .before .before .before .before .before .before .before .before .before .before .before .before .before .before .before in
-    λ s u commit values j h.
-    takes-failure (entry .args .number) s u commit (entry .args .failing) h (entry .args .level) (search needs)
+    λ s u commit values j h a.
+    takes-failure (entry .args .number) s u commit (entry .args .h .wanted .live) (entry .args .failing) h (entry .args .level) (search needs) (a (search needs))
     (c .before .before .before .before .missing-by .result) (search needs) (search needs)
     (ap (λ (m : ℕ). bitAnd m (entry .args .failing)) (c .before .before .before .before .before .before .before .clauses-of .ensures)) (search needs)
     (omega (arith, and-le-r (c .before .before .before .before .before .before .before .clauses-of .result) (entry .args .failing), entry .fits .failing .fits))

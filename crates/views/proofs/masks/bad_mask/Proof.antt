@@ -5,6 +5,7 @@ use native.Mathlib.Omega.{arith}
 use lib.Dec.{T}
 use borrow.Author.Needs.{needs}
 use borrow.Author.Count.{below-more}
+use Rattle.sets.proofs.Algebra.{subset-is}
 use Rattle.store.specs.Store.{View, Store}
 use Rattle.store.specs.Refusal.{badMaskAt}
 use Rattle.state.specs.Keeps.{KeepsKeys, KeepsMasks}
@@ -20,6 +21,15 @@ Inv-loop fresh keys n k₀ k =
 abbrev μ-loop : tie.MeasureT-loop
 μ-loop fresh keys n k₀ k = n - k
 
+wrong-requires : tie.Need-wrong-requires Inv-loop μ-loop
+wrong-requires c κs = search needs
+
+returns : tie.Need-returns Inv-loop μ-loop
+returns c = λ s u e kk km.
+    bad-nowhere s u _ e (λ l h.
+    let right = c .before .wrong .ensures (c .if1 .taken) l h in
+    good-mask s u l (km .masks l h) (kk .full l (omega arith)) (subset-is 1 _ .0 (right .0) 0 tt) (right .1))
+
 loop-holds : tie.Need-loop-holds Inv-loop μ-loop
 loop-holds c = search needs
 
@@ -32,9 +42,9 @@ shared-slice-read-mask c = search needs
 has-requires : tie.Need-has-requires Inv-loop μ-loop
 has-requires c κs = search needs
 
-returns : tie.Need-returns Inv-loop μ-loop
-returns c = λ s u e kk km.
-    bad-at s u _ e _ (omega arith) (lacks-first s u _ (km .masks _ (omega arith)) (not-taken (c .if1 .taken) (c .before .has .ensures)))
+returns-2 : tie.Need-returns-2 Inv-loop μ-loop
+returns-2 c = λ s u e kk km.
+    bad-at s u _ e _ (omega arith) (lacks-first s u _ (km .masks _ (omega arith)) (not-taken (c .if2 .taken) (c .before .has .ensures)))
     (c .before .before .before .before .loop .inv .1 s u e kk km)
 
 mul-without : tie.Need-mul-without Inv-loop μ-loop
@@ -46,9 +56,9 @@ shared-slice-read-without c = search needs
 without-requires : tie.Need-without-requires Inv-loop μ-loop
 without-requires c κs = search needs
 
-returns-2 : tie.Need-returns-2 Inv-loop μ-loop
-returns-2 c = λ s u e kk km.
-    bad-at s u _ e _ (omega arith) (holds-other s u _ (km .masks _ (omega arith)) (kk .full _ (omega arith)) (c .before .before .before .before .before .before .before .before .before .shared-slice-known .given _ .fits) (λ z. c .if2 .taken (c .before .without .ensures ∙ z)))
+returns-3 : tie.Need-returns-3 Inv-loop μ-loop
+returns-3 c = λ s u e kk km.
+    bad-at s u _ e _ (omega arith) (holds-other s u _ (km .masks _ (omega arith)) (kk .full _ (omega arith)) (c .before .before .before .before .before .before .before .before .before .before .before .shared-slice-known .given _ .fits) (λ z. c .if3 .taken (c .before .without .ensures ∙ z)))
     (c .before .before .before .before .before .before .before .loop .inv .1 s u e kk km)
 
 add-k : tie.Need-add-k Inv-loop μ-loop
@@ -62,11 +72,11 @@ loop-again c = (
   omega arith,
   λ s u e kk km.
       below-more _ _ (c .before .before .before .before .before .before .before .loop .inv .1 s u e kk km)
-      (good-mask s u _ (km .masks _ (omega arith)) (kk .full _ (omega arith)) (not-left (c .before .before .before .if1 .left) (c .before .before .before .before .has .ensures)) (sym (c .before .without .ensures) ∙ c .if2 .left)),
+      (good-mask s u _ (km .masks _ (omega arith)) (kk .full _ (omega arith)) (not-left (c .before .before .before .if2 .left) (c .before .before .before .before .has .ensures)) (sym (c .before .without .ensures) ∙ c .if3 .left)),
 )
 
-returns-3 : tie.Need-returns-3 Inv-loop μ-loop
-returns-3 c = λ s u e kk km. bad-nowhere s u _ e (λ l h. c .before .loop .inv .1 s u e kk km l (omega arith))
+returns-4 : tie.Need-returns-4 Inv-loop μ-loop
+returns-4 c = λ s u e kk km. bad-nowhere s u _ e (λ l h. c .before .loop .inv .1 s u e kk km l (omega arith))
 
 pub bad-mask-spec : {M : Type 1} → statement M
 bad-mask-spec =
@@ -74,16 +84,18 @@ bad-mask-spec =
     (tie.spec
     Inv-loop
     μ-loop
+    wrong-requires
+    returns
     loop-holds
     mul-mask
     shared-slice-read-mask
     has-requires
-    returns
+    returns-2
     mul-without
     shared-slice-read-without
     without-requires
-    returns-2
+    returns-3
     add-k
     loop-less
     loop-again
-    returns-3)
+    returns-4)

@@ -5,7 +5,8 @@ use mathlib.Core.Path.{_≡_}
 use native.Mathlib.Omega.{arith}
 use lib.ListN.{getD}
 use Rattle.views.specs.Prefix.{Downward}
-use Rattle.views.proofs.Downward.{gaps-more, no-gaps}
+use Rattle.views.proofs.Downward.{no-gaps}
+use Rattle.views.proofs.Tests.{none-more}
 use Rattle.views.proofs.prefix.prefixes.Statement.{statement}
 use Rattle.views.proofs.prefix.prefixes.Tie as tie
 
@@ -38,7 +39,7 @@ loop-less : tie.Need-loop-less Inv-loop μ-loop
 loop-less c = search needs
 
 loop-again : tie.Need-loop-again Inv-loop μ-loop
-loop-again c = (omega arith, gaps-more (c .before .before .before .before .before .before .args .fresh .now) _ _ _ (c .before .before .before .before .loop .inv .1) (c .before .gaps .ensures) (c .union .ensures))
+loop-again c = (omega arith, none-more (λ q. Downward (getD (c .before .before .before .before .before .before .args .fresh .now) q 0)) _ (c .before .before .before .before .loop .inv .1) (c .before .gaps .ensures) (c .union .ensures))
 
 returns : tie.Need-returns Inv-loop μ-loop
 returns c = λ e q l. c .before .loop .inv .1 (no-gaps _ e) q (omega arith)
