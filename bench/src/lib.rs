@@ -5,6 +5,7 @@
 pub mod answer;
 pub mod contender;
 pub mod form;
+pub mod odd;
 pub mod ordinary;
 pub mod proved;
 pub mod traces;

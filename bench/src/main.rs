@@ -1,11 +1,12 @@
 //! The benchmark: times the ordinary judge, and the proved one beside it if it
 //! is linked in (feature `proved`), round by round on the same traces, over 16
 //! keys and over 32; what of that goes to the arrays; then files that come in
-//! pieces, and the replay, beside the judge; then both editions of the traces, and
-//! their images judged by themselves. With `--short` it leaves out how the times
-//! grow, with `--editions` all but the editions, with `--images` all but the
-//! images, and with `--plain` it times the plain second engine beside the judge, on
-//! few traces, and nothing else.
+//! pieces, and the replay, beside the judge; then kinds of traces that no judge was
+//! tuned for; then both editions of the traces, and their images judged by
+//! themselves. With `--short` it leaves out how the times grow, with `--odd` all but
+//! the kinds that no judge was tuned for, with `--editions` all but the editions,
+//! with `--images` all but the images, and with `--plain` it times the plain second
+//! engine beside the judge, on few traces, and nothing else.
 
 use std::hint::black_box;
 use std::time::Instant;
@@ -15,7 +16,10 @@ use bench::contender::{
     REPLAY, SHORT, SMALL_PIECES, TAKING,
 };
 use bench::form::COMMITS;
-use bench::traces::{asking, describe, images, in_edition, timed, Style, Trace, NUMBER};
+use bench::odd::{self, KINDS};
+use bench::traces::{
+    asking, describe, images, in_edition, mean_sizes, timed, Style, Trace, NUMBER,
+};
 use model::bare::ROOM;
 use model::Edition;
 
@@ -313,6 +317,65 @@ fn print_asking(contenders: &mut [Box<dyn Contender>]) {
     }
 }
 
+/// The judge on kinds of traces that it was not tuned for, all in the same rounds;
+/// and the worst ratio, with its kind.
+fn print_odd(contenders: &mut [Box<dyn Contender>]) {
+    let number = odd::NUMBER;
+    println!("\nkinds of traces that no judge was tuned for, {number} of each, {COMMITS} commits");
+    let kinds = KINDS.each_ref().map(|kind| {
+        let code = kind.code();
+        (Timed { code, ..JUDGE }, kind.traces(number))
+    });
+    let tasks = kinds.each_ref().map(|(timed, traces)| (timed, &traces[..]));
+    for (timed, traces) in tasks {
+        check(contenders, timed, traces);
+    }
+    let times = time_each(contenders, tasks);
+    let all: Vec<usize> = (0..number).collect();
+    print!(
+        "{:<28} {:>4} {:>6} {:>7} {:>10}",
+        "", "code", "bytes", "records", "operations"
+    );
+    for (place, contender) in contenders.iter().enumerate() {
+        print!(" | {:<8}", contender.name());
+        for way in Way::ALL {
+            print!(" {:>10}", way.name());
+        }
+        if place > 0 {
+            print!(" {:>20}", "ratios");
+        }
+    }
+    println!();
+    for ((kind, (timed, traces)), times) in KINDS.iter().zip(tasks).zip(&times) {
+        let [bytes, records, operations] = mean_sizes(traces);
+        print!("{:<28} {:>4}", kind.name, timed.code);
+        print!(" {bytes:>6.0} {records:>7.0} {operations:>10.0}");
+        for (place, other) in times.iter().enumerate() {
+            print!(" | {:<8}", "");
+            for way in Way::ALL {
+                print!(" {:>10.2}", other.of(way, &all));
+            }
+            if place > 0 {
+                for way in Way::ALL {
+                    print!(" {:>6.2}", other.of(way, &all) / times[0].of(way, &all));
+                }
+            }
+        }
+        println!();
+    }
+    for (place, contender) in contenders.iter().enumerate().skip(1) {
+        let worst = |way: Way| {
+            let ratio = |times: &Vec<Times>| times[place].of(way, &all) / times[0].of(way, &all);
+            let ratios = KINDS.iter().zip(times.iter().map(ratio));
+            let worst = ratios.max_by(|one, other| one.1.total_cmp(&other.1));
+            let (kind, ratio) = worst.expect("there are kinds");
+            format!("{} {ratio:.2} ({})", way.name(), kind.name)
+        };
+        let worst = Way::ALL.map(worst).join("; ");
+        println!("the worst ratio, {}: {worst}", contender.name());
+    }
+}
+
 /// The judge on the same traces in both editions, in the same rounds, with how
 /// long the files are; and the calls that write one edition of the other.
 fn print_editions(contenders: &mut [Box<dyn Contender>], keys: usize) {
@@ -523,6 +586,10 @@ fn main() {
         }
         return;
     }
+    if asked("--odd") {
+        print_odd(&mut contenders);
+        return;
+    }
     if asked("--plain") {
         print_plain(&mut contenders);
         return;
@@ -540,6 +607,7 @@ fn main() {
     drop(wide);
     print_replay(&mut contenders, long);
     print_asking(&mut contenders);
+    print_odd(&mut contenders);
     for keys in KEYS {
         print_editions(&mut contenders, keys);
     }

@@ -6,7 +6,8 @@
 //! growing views, and some odd views after a commit). All of them are taken.
 //!
 //! Beside these there are traces that ask much of the paths of links: CP and SI
-//! accept them to the end, while nearly every view is behind the store.
+//! accept them to the end, while nearly every view is behind the store; and the
+//! kinds of `odd.rs`.
 
 use crate::form::COMMITS;
 use crate::{Answer, Judge};
@@ -28,6 +29,21 @@ pub enum Style {
     /// The same with views close behind the store; each commit reads what the
     /// one before it wrote, and writes the next key.
     Chained,
+    /// Any growing views, and then a full one before a commit.
+    Detour,
+    /// Each client reads and writes keys of its own; a view holds of each client
+    /// its first commits, of some of them more than of others.
+    Apart,
+    /// Views of the same sort, with keys that all clients write.
+    Shared,
+    /// Any growing views, and an odd one after each commit.
+    Odd,
+    /// Each shift gains the versions of one commit.
+    Creeping,
+    /// The same, where a commit writes one key and does nothing else.
+    Single,
+    /// Each shift is to the view that the client has.
+    Still,
 }
 
 impl Style {
@@ -36,6 +52,15 @@ impl Style {
     /// Those of the traces that ask much of the paths of links.
     pub const ASKING: [Style; 2] = [Style::Isolated, Style::Chained];
 
+    /// The styles of five traces one after the other: 2, 2 and 1 of each.
+    pub(crate) const MIX: [Style; 5] = [
+        Style::Serial,
+        Style::Snapshot,
+        Style::Serial,
+        Style::Snapshot,
+        Style::Wild,
+    ];
+
     pub fn name(self) -> &'static str {
         match self {
             Style::Serial => "serial",
@@ -43,15 +68,41 @@ impl Style {
             Style::Wild => "wild",
             Style::Isolated => "isolated",
             Style::Chained => "chained",
+            Style::Detour => "detour",
+            Style::Apart => "apart",
+            Style::Shared => "shared",
+            Style::Odd => "odd",
+            Style::Creeping => "creeping",
+            Style::Single => "single",
+            Style::Still => "still",
         }
     }
+}
 
-    /// The style of the trace with this number: 2, 2 and 1 of each five.
-    fn of(number: usize) -> Style {
-        match number % 5 {
-            0 | 2 => Style::Serial,
-            1 | 3 => Style::Snapshot,
-            _ => Style::Wild,
+/// Sizes of a trace, and how much is in it.
+#[derive(Clone, Copy)]
+pub(crate) struct Plan {
+    pub keys: usize,
+    pub clients: usize,
+    /// The most shifts before a commit.
+    pub shifts: usize,
+    /// Of a hundred keys, how many a commit reads and how many it writes, where
+    /// its style leaves that open.
+    pub reads: usize,
+    pub writes: usize,
+    pub edition: Edition,
+}
+
+impl Plan {
+    /// That of the traces which all figures but those of `odd.rs` are of.
+    pub const fn over(keys: usize) -> Plan {
+        Plan {
+            keys,
+            clients: CLIENTS,
+            shifts: 1,
+            reads: 45,
+            writes: 45,
+            edition: Edition::Long,
         }
     }
 }
@@ -74,21 +125,27 @@ pub fn timed(commits: usize, keys: usize) -> Vec<Trace> {
 
 /// Traces that ask much of the paths of links, so many of each style.
 pub fn asking(number: usize, commits: usize, keys: usize) -> Vec<Trace> {
-    let mut random = Random::seeded(2);
-    let styles = (0..number).flat_map(|_| Style::ASKING);
-    styles
-        .map(|style| Maker::new(Random::seeded(random.word()), style, keys).trace(commits))
-        .collect()
+    planned(2, &Style::ASKING, Plan::over(keys), 2 * number, commits)
 }
 
 /// Traces of so many commits over so many keys, by 16 clients. The file is long
 /// enough for each commit to have a shift before it and all operations.
 pub fn traces(seed: u64, number: usize, commits: usize, keys: usize) -> Vec<Trace> {
+    planned(seed, &Style::MIX, Plan::over(keys), number, commits)
+}
+
+/// Traces by a plan, of these styles in turn.
+pub(crate) fn planned(
+    seed: u64,
+    styles: &[Style],
+    plan: Plan,
+    number: usize,
+    commits: usize,
+) -> Vec<Trace> {
     let mut random = Random::seeded(seed);
-    (0..number)
-        .map(|number| {
-            Maker::new(Random::seeded(random.word()), Style::of(number), keys).trace(commits)
-        })
+    let styles = styles.iter().cycle().take(number);
+    styles
+        .map(|&style| Maker::new(Random::seeded(random.word()), style, plan).trace(commits))
         .collect()
 }
 
@@ -120,11 +177,13 @@ pub fn images(traces: &[Trace]) -> Vec<Trace> {
 struct Maker {
     random: Random,
     style: Style,
-    keys: usize,
+    plan: Plan,
     /// Value and writer of each version of each key.
     versions: Vec<Vec<(u32, usize)>>,
     /// The keys that each commit wrote; commit 0 is the opening transaction.
     wrote: Vec<Vec<usize>>,
+    /// The commits of each client, in order.
+    made: Vec<Vec<usize>>,
     clients: Vec<Client>,
     records: Vec<u8>,
     record_count: usize,
@@ -141,8 +200,8 @@ struct Client {
 }
 
 impl Maker {
-    fn new(mut random: Random, style: Style, keys: usize) -> Maker {
-        let clients = (0..CLIENTS)
+    fn new(mut random: Random, style: Style, plan: Plan) -> Maker {
+        let clients = (0..plan.clients)
             .map(|_| Client {
                 held: vec![true],
                 least: 0,
@@ -152,9 +211,10 @@ impl Maker {
         Maker {
             random,
             style,
-            keys,
-            versions: vec![vec![(0, 0)]; keys],
-            wrote: vec![(0..keys).collect()],
+            plan,
+            versions: vec![vec![(0, 0)]; plan.keys],
+            wrote: vec![(0..plan.keys).collect()],
+            made: vec![Vec::new(); plan.clients],
             clients,
             records: Vec::new(),
             record_count: 0,
@@ -164,15 +224,17 @@ impl Maker {
 
     fn trace(mut self, commits: usize) -> Trace {
         for _ in 0..commits {
-            let client = self.random.below(CLIENTS);
-            self.shift(client);
+            let client = self.random.below(self.plan.clients);
+            for left in (0..self.plan.shifts).rev() {
+                self.shift(client, left);
+            }
             self.commit(client);
         }
         let mut bytes = Vec::with_capacity(12 + self.records.len());
         bytes.extend((12 + self.records.len() as u32).to_le_bytes());
         bytes.extend(8u16.to_le_bytes());
         bytes.extend(1u16.to_le_bytes());
-        bytes.extend([self.keys as u8, CLIENTS as u8]);
+        bytes.extend([self.plan.keys as u8, self.plan.clients as u8]);
         bytes.extend((self.record_count as u16).to_le_bytes());
         bytes.extend(&self.records);
         Trace {
@@ -188,11 +250,13 @@ impl Maker {
         self.wrote.len() - 1
     }
 
-    /// A shift before the next commit of this client, or none.
-    fn shift(&mut self, number: usize) {
+    /// A shift before the next commit of this client, or none; so many more may
+    /// follow before that commit.
+    fn shift(&mut self, number: usize, left: usize) {
         let now = self.now();
         let mut client = self.clients[number].clone();
         client.held.resize(now + 1, false);
+        let before = self.masks(&client.held);
         match self.style {
             Style::Serial => {
                 if client.held.iter().all(|&held| held) {
@@ -222,15 +286,54 @@ impl Maker {
                 if !self.random.percent(80) {
                     return;
                 }
-                let often = 10 + self.random.below(80);
-                for held in &mut client.held {
-                    *held |= self.random.percent(often);
+                self.grow(&mut client.held);
+            }
+            Style::Odd => self.grow(&mut client.held),
+            Style::Detour => match left {
+                0 => client.held.fill(true),
+                _ => self.grow(&mut client.held),
+            },
+            Style::Apart | Style::Shared => {
+                for made in &self.made {
+                    let had = made.iter().filter(|&&commit| client.held[commit]).count();
+                    let more = self.random.below(made.len() + 1 - had);
+                    for &commit in &made[had..had + more] {
+                        client.held[commit] = true;
+                    }
                 }
             }
+            Style::Creeping | Style::Single => {
+                let lacking: Vec<usize> =
+                    (1..=now).filter(|&commit| !client.held[commit]).collect();
+                if lacking.is_empty() {
+                    return;
+                }
+                client.held[self.random.pick(&lacking)] = true;
+            }
+            Style::Still => {}
         }
         let masks = self.masks(&client.held);
         self.clients[number] = client;
-        self.record(2, &[number as u8, 0], &[], &masks);
+        let mut head = vec![number as u8, 0];
+        match self.plan.edition {
+            Edition::Long => self.record(2, &head, &[], &masks),
+            Edition::Short => {
+                let changed = |&key: &usize| masks[key] != before[key];
+                let listed: Vec<usize> = (0..self.plan.keys).filter(changed).collect();
+                let set: u32 = listed.iter().map(|key| 1 << key).sum();
+                head.extend(set.to_le_bytes());
+                let masks: Vec<u64> = listed.iter().map(|&key| masks[key]).collect();
+                self.record(6, &head, &[], &masks);
+            }
+        }
+    }
+
+    /// Any of the commits that are not held, more or fewer of them.
+    fn grow(&mut self, held: &mut [bool]) {
+        let often = 10 + self.random.below(80);
+        for held in held {
+            *held |= self.random.percent(often);
+        }
     }
 
     fn commit(&mut self, number: usize) {
@@ -240,16 +343,16 @@ impl Maker {
         let view = self.masks(&client.held);
 
         let mut operations = Vec::new();
-        let mut touched = vec![false; self.keys];
+        let mut touched = vec![false; self.plan.keys];
         let mut wrote = Vec::new();
-        for key in 0..self.keys {
-            if self.reads(me, key) {
+        for key in 0..self.plan.keys {
+            if self.reads(number, me, key) {
                 let newest = 63 - view[key].leading_zeros() as usize;
                 operations.push((0u8, key, self.versions[key][newest].0));
                 touched[key] = true;
             }
             let whole = view[key].count_ones() as usize == self.versions[key].len();
-            if self.writes(me, key, whole) {
+            if self.writes(number, me, key, whole) {
                 let value = self.random.word() as u32;
                 operations.push((1u8, key, value));
                 touched[key] = true;
@@ -262,10 +365,16 @@ impl Maker {
             }
         }
         self.wrote.push(wrote);
+        self.made[number].push(me);
 
         client.held.push(true);
         client.least = me;
-        if self.style == Style::Wild && self.random.percent(15) {
+        let odd = match self.style {
+            Style::Wild => self.random.percent(15),
+            Style::Odd => true,
+            _ => false,
+        };
+        if odd {
             // A view may change in any way at the keys with an operation, as
             // long as it holds all of a writer or nothing.
             for commit in 1..=me {
@@ -281,23 +390,34 @@ impl Maker {
         client.session += 1 + self.random.below(3) as u32;
         self.clients[number] = client;
         self.operation_count += operations.len();
-        self.record(3, &head, &operations, &after);
+        match self.plan.edition {
+            Edition::Long => self.record(3, &head, &operations, &after),
+            Edition::Short => {
+                let listed = after.iter().zip(touched).filter(|&(_, touched)| touched);
+                let masks: Vec<u64> = listed.map(|(&mask, _)| mask).collect();
+                self.record(5, &head, &operations, &masks);
+            }
+        }
     }
 
-    /// Whether a commit reads this key.
-    fn reads(&mut self, commit: usize, key: usize) -> bool {
+    /// Whether a commit of this client reads this key.
+    fn reads(&mut self, client: usize, commit: usize, key: usize) -> bool {
         match self.style {
-            Style::Chained => key == (commit - 1) % self.keys,
-            _ => self.random.percent(45),
+            Style::Chained => key == (commit - 1) % self.plan.keys,
+            Style::Single => false,
+            Style::Apart if key % self.plan.clients != client => false,
+            _ => self.random.percent(self.plan.reads),
         }
     }
 
     /// Whether it writes the key, of which its view holds every version or not.
-    fn writes(&mut self, commit: usize, key: usize, whole: bool) -> bool {
+    fn writes(&mut self, client: usize, commit: usize, key: usize, whole: bool) -> bool {
         match self.style {
-            Style::Chained => whole && key == commit % self.keys,
-            Style::Isolated => whole && self.random.percent(45),
-            _ => self.random.percent(45),
+            Style::Chained => whole && key == commit % self.plan.keys,
+            Style::Single => key == commit % self.plan.keys,
+            Style::Isolated if !whole => false,
+            Style::Apart if key % self.plan.clients != client => false,
+            _ => self.random.percent(self.plan.writes),
         }
     }
 
@@ -327,11 +447,19 @@ impl Maker {
     }
 }
 
+/// The mean of bytes, records and operations.
+pub fn mean_sizes(traces: &[Trace]) -> [f64; 3] {
+    let sizes: [fn(&Trace) -> usize; 3] = [
+        |trace| trace.bytes.len(),
+        |trace| trace.records,
+        |trace| trace.operations,
+    ];
+    sizes.map(|size| traces.iter().map(size).sum::<usize>() as f64 / traces.len().max(1) as f64)
+}
+
 /// Mean numbers of traces, to be printed.
 pub fn describe(traces: &[Trace]) -> String {
-    let mean = |number: fn(&Trace) -> usize| {
-        traces.iter().map(number).sum::<usize>() as f64 / traces.len().max(1) as f64
-    };
+    let [bytes, records, operations] = mean_sizes(traces);
     let mut styles = HashMap::new();
     for trace in traces {
         *styles.entry(trace.style).or_insert(0) += 1;
@@ -342,11 +470,8 @@ pub fn describe(traces: &[Trace]) -> String {
         .filter_map(|style| Some(format!("{} {}", styles.get(style)?, style.name())))
         .collect();
     format!(
-        "{} traces ({}); mean: {:.0} bytes, {:.0} records, {:.0} operations",
+        "{} traces ({}); mean: {bytes:.0} bytes, {records:.0} records, {operations:.0} operations",
         traces.len(),
         styles.join(", "),
-        mean(|trace| trace.bytes.len()),
-        mean(|trace| trace.records),
-        mean(|trace| trace.operations),
     )
 }

@@ -2,6 +2,7 @@
 //! same bytes in the lent buffer, of each call.
 
 use bench::form::COMMITS;
+use bench::odd::{self, KINDS};
 use bench::traces::{asking, describe, in_edition, timed, traces, Trace};
 use bench::{judge_image, Judge, Session};
 use model::bare::{is_ring, links, shaped, show, Bare, Shown, ROOM};
@@ -214,6 +215,38 @@ fn what_is_timed() {
     }
 }
 
+/// A few traces of each kind that no judge was tuned for.
+#[test]
+fn odd_traces() {
+    let mut judge = Judge::new();
+    for kind in &KINDS {
+        for (number, trace) in kind.traces(3).iter().enumerate() {
+            let name = format!("{}, trace {number}", kind.name);
+            let code = compare_all(&mut judge, &trace.bytes, &name);
+            assert_eq!(u64::from(code), kind.code(), "{name}: another code");
+        }
+    }
+}
+
+/// The kinds that are named after the levels are what their names say.
+#[test]
+fn what_odd_views_refuse() {
+    let refusing_of = |name: &str| {
+        let kind = KINDS.iter().find(|kind| kind.name == name);
+        refusing(&kind.expect("a kind").traces(odd::NUMBER))
+    };
+    assert_eq!(refusing_of("odd views, none refuses"), [0; 10]);
+    let all = odd::NUMBER;
+    assert_eq!(
+        refusing_of("odd views, SER alone refuses"),
+        [0, 0, 0, 0, 0, 0, 0, 0, 0, all]
+    );
+    assert_eq!(
+        refusing_of("odd views, CC accepts"),
+        [0, 0, 0, 0, 0, all, all, all, all, all]
+    );
+}
+
 /// How many of the traces each level refuses; all of them are taken.
 fn refusing(traces: &[Trace]) -> [usize; 10] {
     let mut judge = Judge::new();
@@ -236,7 +269,7 @@ fn refusing(traces: &[Trace]) -> [usize; 10] {
 #[test]
 fn proved_calls_on_timed_traces() {
     use bench::contender::{
-        check, contenders, JUDGE, LARGE_PIECES, LONG, REPLAY, SHORT, SMALL_PIECES, TAKING,
+        check, contenders, Timed, JUDGE, LARGE_PIECES, LONG, REPLAY, SHORT, SMALL_PIECES, TAKING,
     };
     use bench::traces::Style;
     let mut contenders = contenders();
@@ -254,6 +287,14 @@ fn proved_calls_on_timed_traces() {
         traces.retain(|trace| trace.style == Style::Serial);
         check(&mut contenders, &TAKING, &traces);
         check(&mut contenders, &REPLAY, &traces);
+    }
+    for kind in &KINDS {
+        let code = kind.code();
+        check(
+            &mut contenders,
+            &Timed { code, ..JUDGE },
+            &kind.traces(odd::NUMBER),
+        );
     }
 }
 
