@@ -157,6 +157,7 @@ fn print_judge(contenders: &mut [Box<dyn Contender>], sizes: [&[Trace]; 2]) {
     let [first_times, second_times, headers_times] = time_each(contenders, tasks);
     print_full(contenders, KEYS[0], first, &first_times);
     print_full(contenders, KEYS[1], second, &second_times);
+    print_rate(contenders, second, &second_times);
     print_arrays(contenders, &headers_times, [&first_times, &second_times]);
 }
 
@@ -186,6 +187,21 @@ fn print_full(contenders: &[Box<dyn Contender>], keys: usize, traces: &[Trace], 
             }
             println!();
         }
+    }
+}
+
+/// How many of the traces one core judges in a second, and how many bytes.
+fn print_rate(contenders: &[Box<dyn Contender>], traces: &[Trace], times: &[Times]) {
+    let all: Vec<usize> = (0..traces.len()).collect();
+    let [bytes, ..] = mean_sizes(traces);
+    for (contender, times) in contenders.iter().zip(times) {
+        let rate = |way: Way| {
+            let time = times.of(way, &all);
+            let (files, megabytes) = (1e6 / time, bytes / time);
+            format!("{}: {files:.0} files, {megabytes:.0} MB", way.name())
+        };
+        let rates = Way::ALL.map(rate).join("; ");
+        println!("a second on one core, {}: {rates}", contender.name());
     }
 }
 
