@@ -23,13 +23,15 @@ pub enum Bare {
     Ring(usize),
 }
 
-/// A code, 1 to 18, 20 or 22; record, key and version are 0 where not named.
+/// A code, 1 to 18, 20 or 22; record, key, version and writer are 0 where not
+/// named.
 #[derive(Clone, Copy, PartialEq, Eq, Debug)]
 pub struct Refusal {
     pub code: u8,
     pub record: u32,
     pub key: u8,
     pub version: u8,
+    pub writer: u8,
 }
 
 impl Refusal {
@@ -40,6 +42,7 @@ impl Refusal {
             record,
             key: 0,
             version: 0,
+            writer: 0,
         }
     }
 }
@@ -107,6 +110,7 @@ impl From<Refusal> for model::Refusal {
             record: refusal.record as usize,
             key: refusal.key.into(),
             version: refusal.version.into(),
+            writer: refusal.writer.into(),
         }
     }
 }

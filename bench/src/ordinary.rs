@@ -69,11 +69,17 @@ struct Fault {
     code: u8,
     key: usize,
     version: usize,
+    writer: usize,
 }
 
 impl Fault {
     fn at(code: u8, key: usize, version: usize) -> Fault {
-        Fault { code, key, version }
+        Fault {
+            code,
+            key,
+            version,
+            writer: 0,
+        }
     }
 
     fn at_record(&self, record: u32) -> Refusal {
@@ -82,6 +88,7 @@ impl Fault {
             record,
             key: self.key as u8,
             version: self.version as u8,
+            writer: self.writer as u8,
         }
     }
 }
@@ -479,7 +486,10 @@ impl<const WIDTH: usize> Store<WIDTH> {
             let newest = highest(view[key]);
             let version = &mut self.versions[key][newest];
             if version.value != read.value() {
-                return Err(Fault::at(13, key, newest));
+                return Err(Fault {
+                    writer: version.writer as usize,
+                    ..Fault::at(13, key, newest)
+                });
             }
             version.readers |= 1 << me;
             result.keys |= 1 << key;

@@ -42,10 +42,10 @@ extern "C" {
  * A refusal is the same for all calls. Its words are written, if the call is lent words, and nothing else:
  *
  *     0       1         2         3         4
- *     code    record    key       version   0         0 where the code does not name it
+ *     code    record    key       version   writer    0 where the code does not name it
  *
  *     code | refused since                                                           | names
- *     -----|-------------------------------------------------------------------------|-----------------------------------------
+ *     -----|-------------------------------------------------------------------------|------------------------------------------------
  *        1 | the file is cut short, too long, or its first field is not its length   | record 0
  *        2 | the header's length, kind, keys or clients are wrong                    | record 0
  *        3 | a record is cut off, or its length is not the one of its kind           | record
@@ -58,7 +58,7 @@ extern "C" {
  *       10 | a view lacks version 0 or holds a version that does not exist           | record, least key
  *       11 | a view holds some but not all versions of a writer                      | record, least missing key and version
  *       12 | a shift loses a version that the view held                              | record, least key and version
- *       13 | a read's value is not that of the newest version in the view            | record, least key, the version read
+ *       13 | a read's value is not that of the newest version in the view            | record, least key, the version read, its writer
  *       14 | a view changed at a key without an operation                            | record, least key
  *       15 | the image buffer is shorter than the image                              |
  *       16 | SER does not accept the trace, so that it has no replay                 | record, key and version of SER's verdict
@@ -67,6 +67,8 @@ extern "C" {
  *       19 | no order of the commits gives the image; a ring is shown                |
  *       20 | the image is misshapen                                                  |
  *       22 | the file that is to be written has more than 65,536 bytes               |
+ *
+ * A writer is a commit's number, from 1, those without operations counted; 0 is the opening transaction, which wrote version 0 of each key.
  *
  * A call gives these and no others:
  *

@@ -253,6 +253,7 @@ fn told_refusal(refusal: &crate::Refusal) -> Refusal {
         record: refusal.record,
         key: Key(refusal.key),
         version: VersionNumber(refusal.version),
+        writer: consistency::CommitNumber(refusal.writer),
     }
 }
 

@@ -348,6 +348,7 @@ fn code(code: u8, record: usize, key: usize, version: usize) -> Expected {
         record,
         key,
         version,
+        writer: 0,
     })
 }
 

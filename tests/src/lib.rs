@@ -72,6 +72,8 @@ pub struct Refusal {
     pub record: usize,
     pub key: usize,
     pub version: usize,
+    /// Of code 13 alone: the commit that wrote the version.
+    pub writer: usize,
 }
 
 impl Refusal {
@@ -82,6 +84,7 @@ impl Refusal {
             record,
             key: 0,
             version: 0,
+            writer: 0,
         }
     }
 }

@@ -35,6 +35,8 @@ pub struct Met {
     /// Files by the ways in which commits stand to rule 1: in all, and those
     /// that were not refused there before request E7.
     numbers: BTreeMap<Way, (usize, usize)>,
+    /// The writers that code 13 names.
+    writers: BTreeSet<usize>,
     /// The failures of SER, as code 16 names them.
     ser_failures: BTreeSet<Refusal>,
     /// The most operations of a commit in the files that are taken.
@@ -63,8 +65,12 @@ impl Met {
             met.file(&case);
             met.editions.file(&case, &outcome);
             met.header(&case.bytes, outcome.is_ok());
-            if let Ok(taken) = &outcome {
-                met.taken(&case.bytes, taken);
+            match &outcome {
+                Ok(taken) => met.taken(&case.bytes, taken),
+                Err(refusal) if refusal.code == 13 => {
+                    met.writers.insert(refusal.writer);
+                }
+                Err(_) => {}
             }
             met.numbers(&case.bytes, &outcome);
             for call in Call::ALL {
@@ -180,6 +186,7 @@ impl Met {
             let counts = self.numbers.entry(way).or_default();
             *counts = (counts.0 + files, counts.1 + changed);
         }
+        self.writers.extend(other.writers);
         self.ser_failures.extend(other.ser_failures);
         self.most_operations = self.most_operations.max(other.most_operations);
         self.longest_file = self.longest_file.max(other.longest_file);
@@ -232,6 +239,7 @@ impl Met {
             println!("  {combination}: {count}");
         }
         println!("{} combinations", self.combinations.len());
+        println!("writers named by code 13: {}", self.writers.len());
         let [records, keys, versions] = self.named_by_16();
         println!("named by code 16: {records} records, {keys} keys, {versions} versions");
         println!("most operations of a commit {}", self.most_operations);
@@ -274,6 +282,8 @@ impl Met {
         }
         let met: BTreeSet<(Call, u8)> = self.codes.keys().copied().collect();
         assert_eq!(met, possible_codes());
+        let writers = &self.writers;
+        assert!(writers.contains(&0) && writers.len() >= 10, "{writers:?}");
         let named = self.named_by_16();
         assert!(named.iter().all(|&different| different >= 10), "{named:?}");
         for level in &LEVELS {

@@ -47,6 +47,7 @@ pub fn replay_file(trace: &Trace, run: &Run, ser: &Verdict) -> Result<Vec<u8>, R
             record,
             key,
             version,
+            writer: 0,
         }),
     }
 }

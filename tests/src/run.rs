@@ -4,8 +4,8 @@
 //! first fault.
 
 use crate::store::{
-    held_of, least_bad_key, least_split_version, newest, opening_view, Author, CommitNumber, Key,
-    Store, Version, View,
+    held_of, least_bad_key, least_split_version, newest_visible, opening_view, Author,
+    CommitNumber, Key, Store, Version, View,
 };
 use crate::trace::{Operation, OperationKind, Record, Trace};
 use crate::Refusal;
@@ -35,9 +35,12 @@ pub struct Run {
 /// Does the number of a commit keep rule 1?
 pub type Numbers = fn(&Step) -> bool;
 
+/// Who is said with code 13 to have written what a commit read of a key.
+pub type Writers = fn(&Step, Key) -> CommitNumber;
+
 /// Runs a well-formed trace.
 pub fn run(trace: &Trace) -> Result<Run, Refusal> {
-    run_by(trace, number_rises)
+    run_by(trace, number_rises, writer_seen)
 }
 
 /// Rule 1: the number is "above every earlier number of that client in the
@@ -47,8 +50,13 @@ pub fn number_rises(step: &Step) -> bool {
     earlier.all(|earlier| earlier < step.author.session)
 }
 
-/// The same with another rule 1.
-pub fn run_by(trace: &Trace, numbers: Numbers) -> Result<Run, Refusal> {
+/// The writer of the version that the read sees.
+pub fn writer_seen(step: &Step, key: Key) -> CommitNumber {
+    newest_visible(&step.store, &step.u, key).writer
+}
+
+/// The same with another rule 1, or with other writers named.
+pub fn run_by(trace: &Trace, numbers: Numbers, writers: Writers) -> Result<Run, Refusal> {
     let mut store = Store::opening(trace.keys);
     let mut views = vec![opening_view(trace.keys); trace.clients];
     let mut steps = Vec::new();
@@ -81,7 +89,7 @@ pub fn run_by(trace: &Trace, numbers: Numbers) -> Result<Run, Refusal> {
                     store_after: store_after.clone(),
                     u_after: after.clone(),
                 };
-                check_commit(&step, numbers)?;
+                check_commit(&step, numbers, writers)?;
                 views[*client] = after.clone();
                 store = store_after;
                 steps.push(step);
@@ -103,15 +111,18 @@ fn check_shift(record: usize, store: &Store, old: &View, new: &View) -> Result<(
 }
 
 /// Codes 9, 13, 10, 11, 14.
-fn check_commit(step: &Step, numbers: Numbers) -> Result<(), Refusal> {
+fn check_commit(step: &Step, numbers: Numbers, writers: Writers) -> Result<(), Refusal> {
     if !numbers(step) {
         return Err(Refusal::at(9, step.record));
     }
     for operation in &step.operations {
         if operation.kind == OperationKind::Read {
-            let version = newest(&step.u, operation.key);
-            if operation.value != step.store.get(operation.key, version).value {
-                return Err(named(13, step.record, operation.key, version));
+            let seen = newest_visible(&step.store, &step.u, operation.key);
+            if operation.value != seen.value {
+                return Err(Refusal {
+                    writer: writers(step, operation.key).0,
+                    ..named(13, step.record, operation.key, seen.version)
+                });
             }
         }
     }
@@ -142,5 +153,6 @@ fn named(code: u8, record: usize, key: Key, version: Version) -> Refusal {
         record,
         key: key.0,
         version: version.0,
+        writer: 0,
     }
 }

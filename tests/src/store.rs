@@ -174,7 +174,7 @@ impl Store {
             let list = &mut next.lists[operation.key.0];
             match operation.kind {
                 OperationKind::Read => {
-                    let version = newest(u, operation.key);
+                    let version = newest_visible(self, u, operation.key).version;
                     list[version.0].readers.insert(commit);
                 }
                 OperationKind::Write => list.push(StoredVersion {
@@ -204,6 +204,26 @@ pub fn held_of(view: &View, key: Key) -> BTreeSet<Version> {
 /// The newest version that a view holds of a key; a view holds version 0.
 pub fn newest(view: &View, key: Key) -> Version {
     held_of(view, key).last().copied().unwrap_or(Version(0))
+}
+
+/// What a read sees.
+#[derive(Clone, Copy, PartialEq, Eq, Debug)]
+pub struct Visible {
+    pub value: u32,
+    pub version: Version,
+    pub writer: CommitNumber,
+}
+
+/// "The lookup of the newest visible version must answer value, version and
+/// writer" (request E13).
+pub fn newest_visible(store: &Store, view: &View, key: Key) -> Visible {
+    let version = newest(view, key);
+    let stored = store.get(key, version);
+    Visible {
+        value: stored.value,
+        version,
+        writer: stored.writer,
+    }
 }
 
 /// The transactions of which a view holds a version.

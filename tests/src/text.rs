@@ -8,12 +8,17 @@ use crate::{Answer, Refusal, Verdict};
 /// call that has less room for it does nothing.
 pub const LONGEST: usize = 1_272;
 
-/// The line of a refusal.
+/// The line of a refusal; "`writer` and that number stand at the end of a code
+/// 13 line" (request E13).
 pub fn refused(refusal: &Refusal) -> String {
-    format!(
-        "refused {} record {} key {} version {}\n",
+    let mut line = format!(
+        "refused {} record {} key {} version {}",
         refusal.code, refusal.record, refusal.key, refusal.version
-    )
+    );
+    if refusal.code == 13 {
+        line += &format!(" writer {}", refusal.writer);
+    }
+    line + "\n"
 }
 
 pub fn report(answer: &Answer) -> String {

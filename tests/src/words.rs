@@ -51,7 +51,7 @@ pub fn shown_words(shown: &Shown) -> Vec<u64> {
 
 /// The same for all calls.
 fn refusal_words(refusal: &Refusal) -> Vec<u64> {
-    let named = [refusal.record, refusal.key, refusal.version, 0];
+    let named = [refusal.record, refusal.key, refusal.version, refusal.writer];
     let mut words = vec![refusal.code.into()];
     words.extend(named.map(|number| number as u64));
     words

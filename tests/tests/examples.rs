@@ -195,10 +195,8 @@ fn replay_of_b() {
     for length in [0, 11, 12, LONG_FILE] {
         let mut buffer = pattern(length);
         let due = Refusal {
-            code: 16,
-            record: 2,
-            key: 0,
             version: 1,
+            ..Refusal::at(16, 2)
         };
         let answer = replay(&encode(&trace_b()), &mut buffer);
         assert_eq!(answer, Replay::Refused(due));

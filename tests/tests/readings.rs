@@ -7,7 +7,7 @@ use model::levels::missing;
 use model::relations::so;
 use model::store::{CommitNumber, Store};
 use model::trace::{encode, with_true_length, Operation, Record, Trace};
-use model::{judge, judge_with_room, replay, Answer, Refusal, Replay, Report};
+use model::{judge, judge_with_room, replay, report, Answer, Refusal, Replay, Report};
 
 fn file(keys: usize, clients: usize, records: &[Record]) -> Vec<u8> {
     encode(&Trace {
@@ -168,6 +168,49 @@ fn six_before_seven_before_eight_before_meaning() {
     assert_eq!(refused(&file(1, 1, &records)), (6, 64, 0, 0));
     records.truncate(63);
     assert_eq!(refused(&file(1, 1, &records)), (13, 1, 0, 0));
+}
+
+/// Request E13: "code 13 gains the writer's commit number (0 for the opening
+/// one)", of the version that is read: not the reader's, and not that of a newer
+/// version that the view does not hold. An empty commit has a number too.
+#[test]
+fn the_writer_of_what_was_read() {
+    let mut records = vec![
+        commit(0, 0, &[], &[&[0]]),
+        commit(0, 1, &[write(0, 5)], &[&[0, 1]]),
+        commit(1, 0, &[write(0, 6)], &[&[0, 2]]),
+        shift(2, &[&[0]]),
+        commit(2, 0, &[read(0, 9)], &[&[0]]),
+    ];
+    for (held, version, writer) in [
+        (&[0][..], 0, 0),
+        (&[0, 1], 1, 2),
+        (&[0, 2], 2, 3),
+        (&[0, 1, 2], 2, 3),
+    ] {
+        records[3] = shift(2, &[held]);
+        let answer = judge_with_room(&file(1, 3, &records));
+        let refusal = Refusal {
+            version,
+            writer,
+            ..Refusal::at(13, 5)
+        };
+        assert_eq!(answer, Answer::Refused(refusal));
+        let line = format!("refused 13 record 5 key 0 version {version} writer {writer}\n");
+        assert_eq!(report(&answer), line);
+    }
+}
+
+/// "Other refusals print as before", those that name a version too.
+#[test]
+fn no_writer_on_another_line() {
+    let records = [
+        commit(0, 0, &[write(0, 5)], &[&[0, 1]]),
+        shift(1, &[&[0, 1]]),
+        shift(1, &[&[0]]),
+    ];
+    let answer = judge_with_room(&file(1, 2, &records));
+    assert_eq!(report(&answer), "refused 12 record 3 key 0 version 1\n");
 }
 
 /// Request E7: "not above every earlier number of that client in the trace,
@@ -439,10 +482,8 @@ fn sixteen_after_the_trace_and_before_the_buffer() {
         Replay::Written(length) => panic!("{length} bytes"),
     };
     let ser = Refusal {
-        code: 16,
-        record: 2,
-        key: 0,
         version: 1,
+        ..Refusal::at(16, 2)
     };
     assert_eq!(no_replay(&records[..1]), Refusal::at(17, 0));
     assert_eq!(no_replay(&records), ser);

@@ -6,7 +6,7 @@
 use model::buffer::{pattern, LONG_FILE};
 use model::facts::{entries_differ, numbers_rise, taken};
 use model::form::{read, read_within};
-use model::generate::{file, taken_case, FORMER_KEYS};
+use model::generate::{file, planted, taken_case, FORMER_KEYS};
 use model::image::image;
 use model::levels::{
     least_missing, missing, missing_before, place_of, session_of, verdicts, verdicts_by, Clauses,
@@ -20,8 +20,10 @@ use model::relations::{
     snapshot_steps, so, then_maybe, union, wr, ww, Relation,
 };
 use model::replay::{replay_file, replay_of, write};
-use model::run::{number_rises, run_by, Numbers, Run, Step};
-use model::store::{opening_view, writers_in, Author, CommitNumber, Key, Store, Version, View};
+use model::run::{number_rises, run_by, writer_seen, Numbers, Run, Step, Writers};
+use model::store::{
+    newest_visible, opening_view, writers_in, Author, CommitNumber, Key, Store, Version, View,
+};
 use model::trace::{encode, OperationKind, Record, Trace};
 use model::{Refusal, Verdict};
 use std::collections::BTreeSet;
@@ -434,7 +436,7 @@ fn record_only(given: &Given, length: usize) -> Result<Vec<u8>, Refusal> {
 
 /// What a trace comes to by a rule 1: the final store, or a refusal.
 fn stored(trace: &Trace, numbers: Numbers) -> Result<Store, Refusal> {
-    run_by(trace, numbers).map(|run| run.store)
+    run_by(trace, numbers, writer_seen).map(|run| run.store)
 }
 
 /// The traces of the first files that are in form and not long.
@@ -467,6 +469,48 @@ fn slips_of_the_numbers_are_noticed() {
         (name, other.count())
     });
     all_noticed(&noticed);
+}
+
+/// Who is named with code 13, by a reading of who wrote what was read.
+fn named_writer(trace: &Trace, writers: Writers) -> usize {
+    let refusal = run_by(trace, number_rises, writers).expect_err("a wrong read");
+    assert_eq!(refusal.code, 13);
+    refusal.writer
+}
+
+#[test]
+fn slips_of_the_writer_are_noticed() {
+    let slips: [(&str, Writers); 5] = [
+        ("the reader", |step, _| step.commit),
+        ("the writer of the key's newest version", |step, key| {
+            writer_of(&step.store, key, step.store.versions_of(key).len() - 1)
+        }),
+        ("the opening transaction", |step, key| {
+            writer_of(&step.store, key, 0)
+        }),
+        ("the version's own number", |step, key| {
+            CommitNumber(newest_visible(&step.store, &step.u, key).version.0)
+        }),
+        ("the newest writer of the view", |step, _| {
+            *writers_in(&step.store, &step.u).last().expect("version 0")
+        }),
+    ];
+    let traces: Vec<Trace> = (0..TRACES / 8)
+        .map(|seed| planted(&mut Random::seeded(seed), 13).0)
+        .map(|bytes| read(&bytes).expect("in form"))
+        .collect();
+    println!("{} traces", traces.len());
+    let noticed = slips.map(|(name, slip)| {
+        let other = traces
+            .iter()
+            .filter(|trace| named_writer(trace, slip) != named_writer(trace, writer_seen));
+        (name, other.count())
+    });
+    all_noticed(&noticed);
+}
+
+fn writer_of(store: &Store, key: Key, version: usize) -> CommitNumber {
+    store.get(key, Version(version)).writer
 }
 
 /// Rule 1 with some of the earlier commits.

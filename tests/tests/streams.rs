@@ -104,7 +104,7 @@ fn an_empty_input() {
 #[test]
 fn a_refusal_beside_closed_streams() {
     let no_replay = "refused 16 record 2 key 0 version 1";
-    let wrong_read = "refused 13 record 1 key 0 version 0";
+    let wrong_read = "refused 13 record 1 key 0 version 0 writer 0";
     for (program, file, line) in [
         (Program::Of(Call::Replay), "B-lost-update", no_replay),
         (Program::Of(Call::Short), "I-wrong-read", wrong_read),

@@ -44,6 +44,7 @@ impl<const WIDTH: usize> Workspace<WIDTH> {
                 record,
                 key,
                 version,
+                writer: 0,
             });
         }
         let length = self.replay_len();

@@ -30,7 +30,7 @@ pub use converting::{
 };
 pub use judging::{judge, judge_words, Answer, Verdict, Verdicts, JUDGE_STACK, JUDGE_WORDS};
 pub use plain::{plain, plain_words, PLAIN_STACK};
-pub use refusal::{Key, Refusal, VersionNumber, NO_ROOM, REFUSAL_WORDS};
+pub use refusal::{CommitNumber, Key, Refusal, VersionNumber, NO_ROOM, REFUSAL_WORDS};
 pub use replaying::{replay, replay_words, Replay, LONGEST_REPLAY, REPLAY_STACK, REPLAY_WORDS};
 pub use report::{report, LONGEST_REPORT, REPORT_STACK};
 pub use session::{

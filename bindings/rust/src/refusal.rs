@@ -9,6 +9,11 @@ pub struct Key(pub usize);
 #[derive(Clone, Copy, PartialEq, Eq, Debug)]
 pub struct VersionNumber(pub usize);
 
+/// The number of a commit, from 1, those without operations included; 0 is the
+/// opening transaction, which wrote version 0 of each key.
+#[derive(Clone, Copy, PartialEq, Eq, Debug)]
+pub struct CommitNumber(pub usize);
+
 /// Why a call refused, in the same form for all calls: a code with what it
 /// names, and 0 for what it does not name.
 ///
@@ -26,7 +31,7 @@ pub struct VersionNumber(pub usize);
 /// | 10 | a view lacks version 0 or holds a version that does not exist | record, least key |
 /// | 11 | a view holds some but not all versions of a writer | record, least missing key and version |
 /// | 12 | a shift loses a version that the view held | record, least key and version |
-/// | 13 | a read's value is not that of the newest version in the view | record, least key, the version read |
+/// | 13 | a read's value is not that of the newest version in the view | record, least key, the version read, its writer |
 /// | 14 | a view changed at a key without an operation | record, least key |
 /// | 15 | the image buffer is shorter than the image | |
 /// | 16 | SER does not accept the trace, so that it has no replay | record, key and version of SER's verdict |
@@ -58,10 +63,12 @@ pub struct Refusal {
     pub record: usize,
     pub key: Key,
     pub version: VersionNumber,
+    /// The commit that wrote the version, which code 13 alone names.
+    pub writer: CommitNumber,
 }
 
-/// The words of a refusal, for every call: code, record, key, version, and one
-/// that is 0.
+/// The words of a refusal, for every call: code, record, key, version and
+/// writer.
 pub const REFUSAL_WORDS: usize = 5;
 
 /// The code of a call whose words are too few for its answer: nothing was done,
@@ -76,6 +83,7 @@ impl Refusal {
             record: words[1] as usize,
             key: Key(words[2] as usize),
             version: VersionNumber(words[3] as usize),
+            writer: CommitNumber(words[4] as usize),
         }
     }
 }

@@ -48,7 +48,7 @@ impl Session {
     pub fn push(&mut self, piece: &[u8]) -> Result<(), Refusal> {
         match push_piece(&mut self.record, &mut self.kept, piece) {
             0 => Ok(()),
-            code => Err(Refusal::of(&[code, 0, 0, 0])),
+            code => Err(Refusal::of(&[code, 0, 0, 0, 0])),
         }
     }
 

@@ -174,7 +174,7 @@ traceH = record {
     clients = 2;
     events = commits 0 0 (writing 0 1 ∷ writing 1 1 ∷ []) (3 ∷ 3 ∷ []) ∷ shifts 1 (3 ∷ 1 ∷ []) ∷ [];
   };
-  answered = refused (record { code = 11; atRecord = 2; key = 1; version = 1 });
+  answered = refused (refusePlace 11 2 (record { key = 1; version = 1 }));
 }
 
 -- "a client writes key 0, then reads 1 from it and ends with {0}: RYW now fails at record 2, clause 2, key 0, version 1 .. MR fails there as before, by

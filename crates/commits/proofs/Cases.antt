@@ -17,8 +17,7 @@ use Rattle.sets.specs.Set.{Set}
 use Rattle.store.specs.Limits.{maxKeys, maxClients}
 use Rattle.store.specs.Store.{View, Store, Configuration, nextNumber, Commit, commit}
 use Rattle.store.specs.Update.{step, viewBefore, storeAfter}
-use Rattle.store.specs.Missing.{Place}
-use Rattle.store.specs.Refusal.{Refusal, refuse, refuseKey, refusePlace, notAbove, oldNumber, wrongRead, stray, refusesEvent}
+use Rattle.store.specs.Refusal.{Refusal, refuse, refuseKey, Sighting, refuseRead, notAbove, oldNumber, wrongRead, stray, refusesEvent}
 use Rattle.store.specs.Sound.{Sound}
 use Rattle.store.specs.History.{InLog, history, held}
 use Rattle.store.specs.View.{IsView, FitsView}
@@ -80,7 +79,7 @@ module _ (i : ℕ) (s : Store) (u : View) (c : Commit) where
   unfolding earlyRefusal firstSome when orElse
   early-old t q = rw (q, T-true (oldNumber s c) t)
 
-  pub early-wrong : {a : Refusal} {p : Place} → ¬ T (oldNumber s c) → wrongRead s u c ≡ some p → a ≡ refusePlace 13 i p → some a ≡ earlyRefusal i s u c
+  pub early-wrong : {a : Refusal} {p : Sighting} → ¬ T (oldNumber s c) → wrongRead s u c ≡ some p → a ≡ refuseRead i p → some a ≡ earlyRefusal i s u c
   unfolding earlyRefusal firstSome when orElse mapSome
   early-wrong n e q = rw (q, T-false (oldNumber s c) n, e)
 

@@ -12,7 +12,7 @@ use Rattle.dependencies.specs.History as D
 use Rattle.store.specs.Store.{View, Store, Configuration, nextNumber, Commit, commit}
 use Rattle.store.specs.Update.{step, viewBefore, storeAfter}
 use Rattle.store.specs.History.{history, held}
-use Rattle.store.specs.Refusal.{Refusal, refuse, refuseKey, refusePlace, oldNumber, wrongRead, stray}
+use Rattle.store.specs.Refusal.{Refusal, refuse, refuseKey, refuseRead, oldNumber, wrongRead, stray}
 use Rattle.store.specs.Sound.{Sound}
 use Rattle.growth.specs.Made.{Made}
 use Rattle.growth.specs.Ordered.{Ordered}
@@ -32,7 +32,7 @@ use Rattle.shifts.specs.Outcomes.{outcomeOf, maskRefusal}
 
 -- codes 9 and 13
 unfoldable pub earlyRefusal : ℕ → Store → View → Commit → Option Refusal
-earlyRefusal i s u c = firstSome (when (oldNumber s c) (refuse 9 i) ∷ mapSome (refusePlace 13 i) (wrongRead s u c) ∷ [])
+earlyRefusal i s u c = firstSome (when (oldNumber s c) (refuse 9 i) ∷ mapSome (refuseRead i) (wrongRead s u c) ∷ [])
 
 -- codes 10, 11 and 14
 unfoldable pub lateRefusal : ℕ → Configuration → Commit → Option Refusal

@@ -1,6 +1,6 @@
 // What is tested before a commit is made: its session number, and the values that it reads (01, Store and views, 1 and 2).
 use shifts::Outcome;
-use state::Found;
+use state::FoundRead;
 use state::Refusal;
 ghost use Prim.Native.Nat.{_≤_, _<_};
 ghost use mathlib.Core.Path.{_≡_};
@@ -41,7 +41,7 @@ pub fn early(
         n,
     );
     match wrong {
-        Found::At(k, v) => Outcome::Refused(Refusal::of_version(13, number, k, v)),
-        Found::Nothing => Outcome::Taken,
+        FoundRead::Sees(k, v) => Outcome::Refused(Refusal::of_read(number, k, v)),
+        FoundRead::NoRead => Outcome::Taken,
     }
 }

@@ -10,13 +10,14 @@ use lib.Dec.{T}
 use lib.ListN.{length, getD, set, length-set}
 use lib.Seq.{getD-set-same, getD-set-other}
 use Rattle.search.specs.Choose.{when}
-use Rattle.sets.specs.Set.{Set, has, insert, below, highest, lowest}
+use Rattle.sets.specs.Set.{Set, has, insert, below, lowest}
 use Rattle.store.specs.Limits.{maxKeys}
 use Rattle.store.specs.Store.{Key, VersionNumber, CommitNumber, Value, Version, openingVersion, View, Store, count, version, read, Commit}
-use Rattle.store.specs.Update.{valueOf, newest, readBy, noteRead}
+use Rattle.store.specs.Update.{valueOf, newest, newestVisible, readBy, noteRead}
 use Rattle.store.specs.History.{Wrote}
 use Rattle.store.proofs.Updated.{note-length, note-writer}
-use Rattle.state.specs.Places.{perKey, headPlace, readersPlace, writerIn}
+use Rattle.state.specs.Places.{perKey, headPlace, readersPlace}
+use Rattle.state.specs.Lookup.{visibleIn}
 use Rattle.state.specs.Room.{VersionsRoom}
 use Rattle.state.specs.Keeps.{KeepsVersions, KeepsKeys}
 use Rattle.state.specs.Accesses.{Left}
@@ -24,7 +25,7 @@ use Rattle.state.proofs.Sets.{isSet-as}
 use Rattle.state.proofs.Accesses.{next-key, left-none}
 use Rattle.operations.specs.Given.{Given}
 use Rattle.operations.specs.Change.{readerAdded, readsNoted}
-use Rattle.operations.proofs.Reading.{seen-exists, writer-packed}
+use Rattle.operations.proofs.Reading.{seen-exists, seen-is}
 use Rattle.operations.proofs.Rows.{VersionAt, Row, rows-of, of-rows, row-other, Passed, pass-none, pass-key, pass-skip}
 
 -- one version of a key gains a reader
@@ -93,25 +94,22 @@ module _ {s : Store} {u : View} {c : Commit} {versions views : List ℕ} {base :
 
   module _ {k : ℕ} {left : Set} (h : Left ranks 0 n k left) where
     pub read-noted : n ≤ maxKeys → 0 < left → {q : ℕ} → q ≡ lowest left / 2 → (before : List ℕ) {after : List ℕ}
-        → after ≡ readerAdded before (readersPlace q (highest (getD views (base + q) 0))) t
+        → {v : VersionNumber} → v ≡ newest u q → after ≡ readerAdded before (readersPlace q v) t
         → ReadsPassed s u c t n k before → ReadsPassed s u c t n (q + 1) after
-    read-noted small a {q} d before {after} e p =
+    read-noted small a {q} d before {after} f e p =
         let (b, l, r, none) = next-key h a d in
         let x : newest u q < count s q = seen-exists g q l in
         let y : count s q ≤ perKey = omega (arith, g .sound .few q, g .room-left) in
-        subst (λ (z : List ℕ). ReadsPassed s u c t n (q + 1) z) (sym (rw (g .row q l) at e))
+        subst (λ (z : List ℕ). ReadsPassed s u c t n (q + 1) z) (sym (rw f at e))
         (pass-key Row (s .versions) (readsNoted s u c t .versions) n q before _ l (skipped k q before b (omega arith) none p)
         (λ j m o vs. noted-other before q (newest u q) t (omega arith) (omega arith) j m (omega arith) vs)
         (λ w. rw (g .operations .reads q, noted-read (has ranks (2 * q)) r (getD values (2 * q) 0) (newest u q) t (s .versions q)) (reader-added before q (newest u q) t (s .versions q) (omega arith) x w)))
 
-    -- the version that the key of the turn is read from has its writer still
-    pub writer-left : 0 < left → {q : ℕ} → q ≡ lowest left / 2 → (a : List ℕ) → ReadsPassed s u c t n k a
-        → writerIn (getD a (headPlace q (highest (getD views (base + q) 0))) 0) ≡ version s q (newest u q) .writer
-    writer-left pos {q} d a p =
+    -- of the key of the turn the code sees what was there before
+    pub seen-left : 0 < left → {q : ℕ} → q ≡ lowest left / 2 → (a : List ℕ) → ReadsPassed s u c t n k a → visibleIn a (getD views (base + q) 0) q ≡ newestVisible s u q
+    seen-left pos {q} d a p =
         let (b, l, _, _) = next-key h pos d in
-        let x : newest u q < count s q = seen-exists g q l in
-        let v = p .left q b l .each (newest u q) x in
-        rw (g .row q l) (writer-packed g q x (v .head))
+        seen-is g q l a (p .left q b l .each (newest u q) (seen-exists g q l) .head)
 
     pub reads-noted : (a : List ℕ) → k ≤ n → left ≡ 0 → VersionsRoom a → ReadsPassed s u c t n k a → KeepsVersions (readsNoted s u c t) a
     reads-noted a l e room p =

@@ -6,7 +6,7 @@ use lib.ListN.{getD, set}
 use Rattle.sets.specs.Set.{Set, insert, union, highest}
 use Rattle.store.specs.Limits.{maxKeys}
 use Rattle.store.specs.Store.{Key, VersionNumber, CommitNumber, View, Store, read, write, Commit}
-use Rattle.store.specs.Update.{valueOf, newest, noteRead, append}
+use Rattle.store.specs.Update.{valueOf, newestVisible, noteRead, append}
 use Rattle.state.specs.Places.{perKey, fullPlace, writersPlace}
 
 -- ---- in the arrays
@@ -36,7 +36,7 @@ keyGrown keys k bit t = set (set keys (fullPlace k) (union (getD keys (fullPlace
 abbrev pub readsNoted : Store → View → Commit → CommitNumber → Store
 readsNoted s u c t = record {
   keys = s .keys;
-  versions = λ k. noteRead (valueOf read (c .operations) k) (newest u k) t (s .versions k);
+  versions = λ k. noteRead (valueOf read (c .operations) k) (newestVisible s u k .version) t (s .versions k);
   clientOf = s .clientOf;
   sessionOf = s .sessionOf;
   viewOf = s .viewOf;

@@ -2,25 +2,22 @@
 // and appends the versions that it writes; both are from before the commit, so a read never sees a write of its own commit.
 // The arrays are described in crates/state/specs. `ranks` holds twice the key for each read, and one more for each write.
 use state::CommitNumber;
-use state::Found;
+use state::FoundRead;
 use state::Key;
 use state::VersionNumber;
 ghost use mathlib.Core.Path.{_≡_};
 ghost use mathlib.Core.List.{List};
-ghost use Prim.Native.Nat.{ℕ, _+_, _*_, _%_, _^_, _<_, _≤_};
+ghost use Prim.Native.Nat.{ℕ, _+_, _*_, _^_, _<_, _≤_};
 ghost use lib.Bits.{bitOr};
-ghost use lib.Dec.{T};
-ghost use lib.ListN.{getD};
-ghost use Rattle.sets.specs.Set.{has, highest};
 ghost use Rattle.store.specs.Limits.{maxKeys, numbers, perKey};
 ghost use Rattle.store.specs.Store.{View, Store, nextNumber, Commit};
-ghost use Rattle.store.specs.Refusal.{wrongAt, wrongRead};
+ghost use Rattle.store.specs.Refusal.{wrongRead};
 ghost use Rattle.store.specs.Update.{update};
-ghost use Rattle.state.specs.Places.{headPlace, readersPlace, viewsLength, writerIn};
+ghost use Rattle.state.specs.Places.{headPlace, readersPlace, viewsLength};
 ghost use Rattle.growth.specs.Links.{FromRead, FromWrite, ToLater};
 ghost use Rattle.growth.specs.Ordered.{Ordered};
 ghost use Rattle.state.specs.Room.{VersionsRoom, KeysRoom, ViewsRoom, ValuesRoom};
-ghost use Rattle.state.specs.Answers.{placeOf};
+ghost use Rattle.state.specs.Answers.{sightingOf};
 ghost use Rattle.state.specs.Keeps.{IsSet, KeepsVersions, KeepsKeys};
 ghost use Rattle.operations.specs.Given.{Given, Appending};
 ghost use Rattle.operations.specs.Change.{freeBit, free, readerAdded, versionAdded, keyGrown, readsNoted, writesAppended};
@@ -30,42 +27,7 @@ const READ: usize = 0;
 
 const WRITE: usize = 1;
 
-// The value in the head of a version.
-fn value_of(head: u64) -> u64
-    ensures { λ r. ⌜ r ≡ head % 2 ^ 32 ⌝ }
-{
-    head % 0x1_0000_0000
-}
-
-// The number of the version that a read of key k sees.
-fn seen(views: &[u64], base: usize, k: Key) -> VersionNumber
-    requires { ⌜ ViewsRoom (now views) × (base + k .0 < viewsLength) ⌝ }
-    ensures { λ r. ⌜ (r .0 ≡ highest (getD (now (views .entry)) (base + k .0) 0)) × (r .0 < perKey) ⌝ }
-{
-    let i = k.0;
-    state::newest(views[base + i])
-}
-
-// The head of the version that a read of key k sees.
-fn head_seen(versions: &[u64], views: &[u64], base: usize, k: Key) -> u64
-    requires { ⌜ VersionsRoom (now versions) × ViewsRoom (now views) × (base + k .0 < viewsLength) × (k .0 < maxKeys) ⌝ }
-    ensures { λ r. ⌜ r ≡ getD (now (versions .entry)) (headPlace (k .0) (highest (getD (now (views .entry)) (base + k .0) 0))) 0 ⌝ }
-{
-    let at = state::PER_KEY * k.0 + seen(views, base, k).0;
-    versions[at]
-}
-
-// Whether key k, which is read, is read with another value than that of the newest version in the view.
-fn wrong_at(versions: &[u64], views: &[u64], base: usize, values: &[u64], k: Key) -> bool
-    requires { ⌜ VersionsRoom (now versions) × ViewsRoom (now views) × (base + k .0 < viewsLength) × (k .0 < maxKeys) × ValuesRoom (now values) ⌝ }
-    ensures { λ r. ⌜ ((s : Store) (u : View) (c : Commit) (ranks n : ℕ)
-        → Given s u c (now (versions .entry)) (now (views .entry)) base (now (values .entry)) ranks n → k .0 < n → T (has ranks (2 * k .0)) → r ≡ wrongAt s u c (k .0)) ⌝ }
-{
-    let i = k.0;
-    values[2 * i] != value_of(head_seen(versions, views, base, k))
-}
-
-// Code 13: the least key that is read with another value than that of the newest version in the view, and that version.
+// Code 13: the least key that is read with another value than that of the newest version in the view, and that version with its writer.
 pub fn wrong_read(
     versions: &[u64],
     views: &[u64],
@@ -73,36 +35,29 @@ pub fn wrong_read(
     values: &[u64],
     ranks: u64,
     n: usize,
-) -> Found
+) -> FoundRead
     requires { ⌜ VersionsRoom (now versions) × ViewsRoom (now views) × (base + n ≤ viewsLength) × (n ≤ maxKeys) × ValuesRoom (now values) ⌝ }
     ensures { λ r. ⌜ ((s : Store) (u : View) (c : Commit)
-        → Given s u c (now (versions .entry)) (now (views .entry)) base (now (values .entry)) ranks n → placeOf r ≡ wrongRead s u c) ⌝ }
+        → Given s u c (now (versions .entry)) (now (views .entry)) base (now (values .entry)) ranks n → sightingOf r ≡ wrongRead s u c) ⌝ }
 {
     let mut left = state::keys_with(ranks, READ, n);
     while left != 0 {
-        let k = Key(sets::lowest(left) / 2);
-        if wrong_at(versions, views, base, values, k) {
-            return Found::At(k, seen(views, base, k));
+        let k = sets::lowest(left) / 2;
+        let sees = state::newest_visible(versions, views[base + k], Key(k));
+        if values[2 * k] != sees.value {
+            return FoundRead::Sees(Key(k), sees);
         }
         left = sets::rest(left);
     }
-    Found::Nothing
+    FoundRead::NoRead
 }
 
-// The writer of the version that a read of key k sees.
-fn writer_seen(versions: &[u64], views: &[u64], base: usize, k: Key) -> CommitNumber
-    requires { ⌜ VersionsRoom (now versions) × ViewsRoom (now views) × (base + k .0 < viewsLength) × (k .0 < maxKeys) ⌝ }
-    ensures { λ r. ⌜ (r .0 ≡ writerIn (getD (now (versions .entry)) (headPlace (k .0) (highest (getD (now (views .entry)) (base + k .0) 0))) 0)) × (r .0 < numbers) ⌝ }
+// The reader `me` added to a version of key k.
+fn note_read(versions: &mut [u64], k: Key, version: VersionNumber, me: CommitNumber)
+    requires { ⌜ VersionsRoom (now versions) × (k .0 < maxKeys) × (version .0 < perKey) × (me .0 < numbers) ⌝ }
+    ensures { λ _. ⌜ now (versions .exit) ≡ readerAdded (now (versions .entry)) (readersPlace (k .0) (version .0)) (me .0) ⌝ }
 {
-    state::writer_of(head_seen(versions, views, base, k))
-}
-
-// The reader `me` added to the version that a read of key k sees.
-fn note_read(versions: &mut [u64], views: &[u64], base: usize, k: Key, me: CommitNumber)
-    requires { ⌜ VersionsRoom (now versions) × ViewsRoom (now views) × (base + k .0 < viewsLength) × (k .0 < maxKeys) × (me .0 < numbers) ⌝ }
-    ensures { λ _. ⌜ now (versions .exit) ≡ readerAdded (now (versions .entry)) (readersPlace (k .0) (highest (getD (now (views .entry)) (base + k .0) 0))) (me .0) ⌝ }
-{
-    let at = state::READERS + (state::PER_KEY * k.0 + seen(views, base, k).0);
+    let at = state::READERS + (state::PER_KEY * k.0 + version.0);
     versions[at] = sets::insert(versions[at], me.0);
 }
 
@@ -135,13 +90,15 @@ pub fn note_reads(
     let mut left = state::keys_with(ranks, READ, n);
     while left != 0 {
         let k = sets::lowest(left) / 2;
-        let writer = writer_seen(versions, views, base, Key(k)).0;
-        from = sets::union(from, sets::single(writer));
+        let sees = state::newest_visible(versions, views[base + k], Key(k));
+        let version = sees.version;
+        let writer = sees.writer;
+        from = sets::union(from, sets::single(writer.0));
         over = sets::union(
             over,
-            sets::without(keys[state::WRITERS + k], sets::up_to(writer)),
+            sets::without(keys[state::WRITERS + k], sets::up_to(writer.0)),
         );
-        note_read(versions, views, base, Key(k), me);
+        note_read(versions, Key(k), version, me);
         left = sets::rest(left);
     }
     Reads { from, over }

@@ -6,9 +6,13 @@ use Rattle.text.specs.Put.{mostDigits}
 abbrev longestField : ℕ → ℕ
 longestField label = label + mostDigits
 
--- "refused 1 record 0 key 0 version 0", and a line feed
+-- behind the version of a refusal: " writer 0", and a line feed
+abbrev pub longestEnd : ℕ
+longestEnd = longestField 8 + 1
+
+-- "refused 13 record 1 key 0 version 0 writer 0", and a line feed
 abbrev pub longestRefusal : ℕ
-longestRefusal = longestField 8 + longestField 8 + longestField 5 + longestField 9 + 1
+longestRefusal = longestField 8 + longestField 8 + longestField 5 + longestField 9 + longestEnd
 
 -- "records 2 commits 2", and a line feed
 abbrev pub longestCounts : ℕ

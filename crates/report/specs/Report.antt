@@ -4,6 +4,9 @@ use Prim.Native.Nat.{ℕ}
 use Prim.Native.String.{String}
 use mathlib.Core.Option.{Option, some, none}
 use mathlib.Core.List.{List, [], _∷_, _++_}
+use lib.Dec.{eqb}
+use Rattle.search.specs.Choose.{choose}
+use Rattle.text.specs.Ascii.{space, lineFeed}
 use Rattle.text.specs.Lines.{Piece, word, number, line}
 use Rattle.store.specs.Refusal.{Refusal}
 use Rattle.trace.specs.Result.{Result, refused, taken}
@@ -11,11 +14,20 @@ use Rattle.levels.specs.Level.{Level, levels, MR, MW, RYW, WFR, CC, UA, PSI, CP
 use Rattle.verdicts.specs.Told.{Told}
 use Rattle.judging.specs.Answers.{Judged}
 
--- refused 1 record 0 key 0 version 0
+-- "`writer` and that number stand at the end of a code 13 line" (02, E13), and of no other
+abbrev pub writerPieces : Refusal → List Piece
+writerPieces r = choose (eqb (r .code) 13) (word "writer" ∷ number (r .writer) ∷ []) []
+
+-- a line from behind one of its pieces on
+abbrev pub behind : List Piece → List ℕ
+behind [] = lineFeed ∷ []
+behind (p ∷ ps) = space ∷ line (p ∷ ps)
+
+-- refused 1 record 0 key 0 version 0, or: refused 13 record 1 key 0 version 0 writer 0
 unfoldable pub refusalLine : Refusal → List ℕ
 refusalLine r =
     line
-    (word "refused" ∷ number (r .code) ∷ word "record" ∷ number (r .atRecord) ∷ word "key" ∷ number (r .key) ∷ word "version" ∷ number (r .version) ∷ [])
+    (word "refused" ∷ number (r .code) ∷ word "record" ∷ number (r .atRecord) ∷ word "key" ∷ number (r .key) ∷ word "version" ∷ number (r .version) ∷ writerPieces r)
 
 -- records 2 commits 2
 unfoldable pub countsLine : ℕ → ℕ → List ℕ

@@ -17,13 +17,27 @@ ghost use Rattle.state.specs.Answers.{refusalOf};
 ghost use Rattle.levels.specs.Level.{levels, MR, MW, RYW, WFR, CC, UA, PSI, CP, SI, SER};
 ghost use Rattle.verdicts.specs.Told.{Told, verdictOf, verdictsOf};
 ghost use Rattle.judging.specs.Answers.{answerOf};
-ghost use Rattle.report.specs.Report.{refusalLine, countsLine, failurePieces, verdictPieces, verdictLine, verdictLines, reportText};
-ghost use Rattle.report.specs.Longest.{longestRefusal, longestCounts, longestVerdict, longestReport};
+ghost use Rattle.report.specs.Report.{writerPieces, behind, refusalLine, countsLine, failurePieces, verdictPieces, verdictLine, verdictLines, reportText};
+ghost use Rattle.report.specs.Longest.{longestEnd, longestRefusal, longestCounts, longestVerdict, longestReport};
 
 // Every report has room in a buffer of so many bytes.
 pub const LONGEST: usize = 1272;
 
-// `refused 1 record 0 key 0 version 0`
+// What stands behind the version of a refusal: ` writer 0` where the code is 13, and a line feed.
+fn put_end(out: &mut [u8], at: usize, refusal: Refusal) -> usize
+    requires { ⌜ at + longestEnd ≤ length (now out) ⌝ }
+    ensures { λ r. ⌜ Put (now (out .entry)) at (behind (writerPieces (refusalOf refusal))) (now (out .exit)) r ⌝ }
+    ensures { λ r. ⌜ r ≤ at + longestEnd ⌝ }
+{
+    if refusal.code == 13 {
+        let writer = refusal.writer;
+        let named = text::put_field(out, at, b" writer ", writer.0 as u64);
+        return text::put_bytes(out, named, b"\n");
+    }
+    text::put_bytes(out, at, b"\n")
+}
+
+// `refused 1 record 0 key 0 version 0`, or `refused 13 record 1 key 0 version 0 writer 0`
 fn put_refusal(out: &mut [u8], at: usize, refusal: Refusal) -> usize
     requires { ⌜ at + longestRefusal ≤ length (now out) ⌝ }
     ensures { λ r. ⌜ Put (now (out .entry)) at (refusalLine (refusalOf refusal)) (now (out .exit)) r ⌝ }
@@ -35,7 +49,7 @@ fn put_refusal(out: &mut [u8], at: usize, refusal: Refusal) -> usize
     let named = text::put_field(out, coded, b" record ", refusal.record as u64);
     let keyed = text::put_field(out, named, b" key ", key.0 as u64);
     let whole = text::put_field(out, keyed, b" version ", version.0 as u64);
-    text::put_bytes(out, whole, b"\n")
+    put_end(out, whole, refusal)
 }
 
 // `records 2 commits 2`

@@ -1,4 +1,5 @@
 pub mod Opening
+pub mod Lookup
 pub mod Sets
 pub mod Accesses
 pub mod Ranks

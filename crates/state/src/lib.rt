@@ -9,9 +9,11 @@ ghost use lib.ListN.{length};
 ghost use Rattle.sets.specs.Set.{highest};
 ghost use Rattle.store.specs.Limits.{maxKeys};
 ghost use Rattle.state.specs.Places.{perKey, numbers, writerIn};
-ghost use Rattle.store.specs.Refusal.{refuse, refuseKey, refusePlace};
+ghost use Rattle.store.specs.Refusal.{refuse, refuseKey, refusePlace, refuseRead};
 ghost use Rattle.state.specs.Accesses.{Left};
-ghost use Rattle.state.specs.Answers.{refusalOf};
+ghost use Rattle.state.specs.Answers.{visibleOf, refusalOf};
+ghost use Rattle.state.specs.Lookup.{visibleIn};
+ghost use Rattle.state.specs.Room.{VersionsRoom};
 ghost use Rattle.state.specs.Keeps.{IsSet};
 ghost use Rattle.state.specs.Rows.{InRows};
 
@@ -65,12 +67,20 @@ pub const VALUES: usize = 2 * Store::KEYS;
 
 // ---- answers
 
-// A refusal: its number, and the record, key and version that it names (0 where not named).
+// A refusal: its number, and the record, key, version and writer that it names (0 where not named).
 pub struct Refusal {
     pub code: usize,
     pub record: usize,
     pub key: Key,
     pub version: VersionNumber,
+    pub writer: CommitNumber,
+}
+
+// The newest version that a view holds of a key: what a read of the key sees.
+pub struct Visible {
+    pub value: u64,
+    pub version: VersionNumber,
+    pub writer: CommitNumber,
 }
 
 // Refusals are made here alone, so that what a refusal has more one day is said in one place.
@@ -84,6 +94,7 @@ impl Refusal {
             record: number,
             key: Key(0),
             version: VersionNumber(0),
+            writer: CommitNumber(0),
         }
     }
 
@@ -96,6 +107,7 @@ impl Refusal {
             record: number,
             key,
             version: VersionNumber(0),
+            writer: CommitNumber(0),
         }
     }
 
@@ -108,6 +120,22 @@ impl Refusal {
             record: number,
             key,
             version,
+            writer: CommitNumber(0),
+        }
+    }
+
+    // Code 13: a read of a key names the version that it sees, and its writer.
+    pub fn of_read(number: usize, key: Key, sees: Visible) -> Refusal
+        ensures { λ r. ⌜ refusalOf r ≡ refuseRead number (record { key = key .0; sees = visibleOf sees }) ⌝ }
+    {
+        let version = sees.version;
+        let writer = sees.writer;
+        Refusal {
+            code: 13,
+            record: number,
+            key,
+            version,
+            writer,
         }
     }
 }
@@ -122,6 +150,12 @@ pub enum Found {
 pub enum FoundKey {
     AtKey(Key),
     NoKey,
+}
+
+// The first read that a search came upon, and what it sees.
+pub enum FoundRead {
+    Sees(Key, Visible),
+    NoRead,
 }
 
 // ---- what words say
@@ -140,6 +174,21 @@ pub fn newest(mask: u64) -> VersionNumber
     ensures { λ r. ⌜ (r .0 ≡ highest mask) × (r .0 < perKey) ⌝ }
 {
     VersionNumber(sets::highest(mask | 1))
+}
+
+// "The lookup of the newest visible version must answer value, version and writer" (02, E13): of key k, in a view that has this mask there.
+pub fn newest_visible(versions: &[u64], mask: u64, k: Key) -> Visible
+    requires { ⌜ VersionsRoom (now versions) × (k .0 < maxKeys) ⌝ }
+    ensures seen { λ r. ⌜ visibleOf r ≡ visibleIn (now (versions .entry)) mask (k .0) ⌝ }
+    ensures small { λ r. ⌜ (r .version .0 < perKey) × (r .writer .0 < numbers) ⌝ }
+{
+    let version = newest(mask);
+    let head = versions[PER_KEY * k.0 + version.0];
+    Visible {
+        value: head % 0x1_0000_0000,
+        version,
+        writer: writer_of(head),
+    }
 }
 
 // ---- what loops share

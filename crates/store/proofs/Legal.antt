@@ -14,8 +14,8 @@ use Rattle.search.proofs.Tests.{same, both, and-is, or-is, not-is, eq-is, lt-is
 use Rattle.search.proofs.Search.{any-is, least-none}
 use Rattle.sets.specs.Set.{Set, has, width}
 use Rattle.sets.proofs.Laws.{has-none, has-lt}
-use Rattle.store.specs.Store.{Key, VersionNumber, CommitNumber, Client, Value, Version, View, Store, Configuration, count, version, nextNumber, read, write, Commit, Event, shift, commit}
-use Rattle.store.specs.Update.{valueOf, reads, writes, touches, newest, update, viewBefore, storeAfter, step}
+use Rattle.store.specs.Store.{Key, VersionNumber, CommitNumber, Client, Value, View, Store, Configuration, count, version, nextNumber, read, write, Commit, Event, shift, commit}
+use Rattle.store.specs.Update.{valueOf, reads, writes, touches, Visible, newestVisible, update, viewBefore, storeAfter, step}
 use Rattle.store.specs.Missing.{Place, missing}
 use Rattle.store.specs.Links.{wrote, hasRead, somewhere, stored, holds}
 use Rattle.store.specs.Refusal.{Refusal, refuse, refuseKey, refusePlace, notAbove, oldNumber, differs, wrongAt, wrongRead, badMaskAt, badMask, wholeWriters, halfHeld, allOf, lost, strayAt, stray, refusesEvent}
@@ -118,14 +118,14 @@ legal-shift n g d u h f =
 
 -- ---- a commit
 
-differs-some : (x : Value) (v : Version) → (¬ T (differs (some x) v)) ↔ (x ≡ v .value)
+differs-some : (x : Value) (v : Visible) → (¬ T (differs (some x) v)) ↔ (x ≡ v .value)
 unfolding differs
 differs-some x v = (
   λ n. eq-is x (v .value) .0 (stable (eqb x (v .value)) (λ m. n (not-T (eqb x (v .value)) m))),
   λ e t. T-not (eqb x (v .value)) t (eq-is x (v .value) .1 e),
 )
 
-differs-none : (v : Version) → ¬ T (differs none v)
+differs-none : (v : Visible) → ¬ T (differs none v)
 unfolding differs
 differs-none v t = t
 
@@ -156,22 +156,22 @@ module _ (g : Configuration) (c : Commit) (h : Sound g) (f : WithinKeys (g .stor
       go t (p, l, e) n (no m) = absurd (n (old .1 (t, l, (p, (e, omega arith)))))
 
   abbrev Values : Type 0
-  Values = (k x : ℕ) → valueOf read (c .operations) k ≡ some x → x ≡ version s k (newest u k) .value
+  Values = (k x : ℕ) → valueOf read (c .operations) k ≡ some x → x ≡ newestVisible s u k .value
 
   values-is : (wrongRead s u c ≡ none) ↔ Values
   unfolding wrongRead
   values-is = both (map-none _ _) (both (least-none (s .keys) (wrongAt s u c)) (right, all))
     where
       right : ((k : ℕ) → k < s .keys → ¬ T (wrongAt s u c k)) → Values
-      right n k x e = differs-some x (version s k (newest u k)) .0
-          (subst (λ (o : Option Value). ¬ T (differs o (version s k (newest u k)))) e (n k (f .read-keys k (isSome-some _ x e))))
+      right n k x e = differs-some x (newestVisible s u k) .0
+          (subst (λ (o : Option Value). ¬ T (differs o (newestVisible s u k))) e (n k (f .read-keys k (isSome-some _ x e))))
 
       all : Values → (k : ℕ) → k < s .keys → ¬ T (wrongAt s u c k)
       all w k l = go (valueOf read (c .operations) k) refl
         where
-          go : (o : Option Value) → valueOf read (c .operations) k ≡ o → ¬ T (differs o (version s k (newest u k)))
-          go none e = differs-none (version s k (newest u k))
-          go (some x) e = differs-some x (version s k (newest u k)) .1 (w k x e)
+          go : (o : Option Value) → valueOf read (c .operations) k ≡ o → ¬ T (differs o (newestVisible s u k))
+          go none e = differs-none (newestVisible s u k)
+          go (some x) e = differs-some x (newestVisible s u k) .1 (w k x e)
 
   abbrev Still : Type 0
   Still = (k : Key) → ¬ T (reads c k) → ¬ T (writes c k) → c .viewAfter k ≡ u k

@@ -4,6 +4,7 @@ pub mod Missing
 pub mod Misses
 pub mod Legal
 pub mod Numbers
+pub mod Seen
 pub mod Links
 pub mod Run
 pub mod Opening

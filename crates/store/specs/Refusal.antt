@@ -7,27 +7,37 @@ use lib.Dec.{eqb, ltb, leb}
 use Rattle.search.specs.Choose.{isSome, mapSome, when, firstSome}
 use Rattle.search.specs.Search.{any, least}
 use Rattle.sets.specs.Set.{Set, has, width}
-use Rattle.store.specs.Store.{Key, VersionNumber, CommitNumber, Client, Value, Version, View, Store, Configuration, count, version, nextNumber, read, write, Commit, Event, shift, commit}
-use Rattle.store.specs.Update.{valueOf, touches, newest, viewBefore, storeAfter}
+use Rattle.store.specs.Store.{Key, VersionNumber, CommitNumber, Client, Value, View, Store, Configuration, count, version, nextNumber, read, write, Commit, Event, shift, commit}
+use Rattle.store.specs.Update.{valueOf, touches, Visible, newestVisible, viewBefore, storeAfter}
 use Rattle.store.specs.Missing.{Place, Rule, missing}
 use Rattle.store.specs.Links.{holds}
 
--- "A refusal returns number, record, key, version (0 where not named)"
+-- "A refusal returns number, record, key, version (0 where not named)"; "code 13 gains the writer's commit number" (02, E13)
 pub record Refusal : Type 0 where
   pub code : ℕ
   pub atRecord : ℕ
   pub key : Key
   pub version : VersionNumber
+  pub writer : CommitNumber
 
 -- refusals that name their record alone, a key, or a key and a version
 abbrev pub refuse : ℕ → ℕ → Refusal
-refuse code n = record { code = code; atRecord = n; key = 0; version = 0 }
+refuse code n = record { code = code; atRecord = n; key = 0; version = 0; writer = 0 }
 
 abbrev pub refuseKey : ℕ → ℕ → Key → Refusal
-refuseKey code n k = record { code = code; atRecord = n; key = k; version = 0 }
+refuseKey code n k = record { code = code; atRecord = n; key = k; version = 0; writer = 0 }
 
 abbrev pub refusePlace : ℕ → ℕ → Place → Refusal
-refusePlace code n p = record { code = code; atRecord = n; key = p .key; version = p .version }
+refusePlace code n p = record { code = code; atRecord = n; key = p .key; version = p .version; writer = 0 }
+
+-- a key that is read, and what the read sees
+pub record Sighting : Type 0 where
+  pub key : Key
+  pub sees : Visible
+
+-- code 13, which alone names a writer: "least key, version read", and "which commit wrote it" (02, E13)
+abbrev pub refuseRead : ℕ → Sighting → Refusal
+refuseRead n r = record { code = 13; atRecord = n; key = r .key; version = r .sees .version; writer = r .sees .writer }
 
 -- ---- rule 1, as 02 amends it (E7): its number is above "every earlier number of that client in the trace, operations or none"
 
@@ -41,17 +51,17 @@ oldNumber s c = any (nextNumber s) (notAbove s c)
 
 -- ---- rule 2: "Each read's value is that of the newest version that u holds of its key."
 
--- the value that was read is not that of the version
-unfoldable pub differs : Option Value → Version → Bool
+-- the value that was read is not that of the version that the read sees
+unfoldable pub differs : Option Value → Visible → Bool
 differs none v = false
 differs (some x) v = not (eqb x (v .value))
 
 abbrev pub wrongAt : Store → View → Commit → Key → Bool
-wrongAt s u c k = differs (valueOf read (c .operations) k) (version s k (newest u k))
+wrongAt s u c k = differs (valueOf read (c .operations) k) (newestVisible s u k)
 
 -- code 13: "read value differs", "least key, version read"
-unfoldable pub wrongRead : Store → View → Commit → Option Place
-wrongRead s u c = mapSome (λ k. record { key = k; version = newest u k }) (least (s .keys) (wrongAt s u c))
+unfoldable pub wrongRead : Store → View → Commit → Option Sighting
+wrongRead s u c = mapSome (λ k. record { key = k; sees = newestVisible s u k }) (least (s .keys) (wrongAt s u c))
 
 -- ---- "A view holds version 0 of each key, only versions that exist, and all versions of a writer if it holds one."
 
@@ -100,7 +110,7 @@ refusesEvent n g (shift d u) =
 refusesEvent n g (commit c) =
     firstSome
     (when (oldNumber (g .store) c) (refuse 9 n)
-    ∷ mapSome (refusePlace 13 n) (wrongRead (g .store) (viewBefore g c) c)
+    ∷ mapSome (refuseRead n) (wrongRead (g .store) (viewBefore g c) c)
     ∷ mapSome (refuseKey 10 n) (badMask (storeAfter g c) (c .viewAfter))
     ∷ mapSome (refusePlace 11 n) (halfHeld (storeAfter g c) (c .viewAfter))
     ∷ mapSome (refuseKey 14 n) (stray (g .store) (viewBefore g c) c)

@@ -18,12 +18,14 @@ use Rattle.sets.proofs.Algebra.{both-is, subset-is, same-sets}
 use Rattle.sets.proofs.Words.{and-pred}
 use Rattle.dependencies.specs.History.{Holds}
 use Rattle.store.specs.Store.{Key, CommitNumber, View, Store, count, version}
+use Rattle.store.specs.Update.{Visible}
 use Rattle.store.specs.Refusal.{halfHeld, wholeWriters, badMask}
 use Rattle.store.specs.History.{Wrote, history, held}
 use Rattle.store.proofs.Missing.{missing-none}
 use Rattle.store.proofs.Links.{holds-means}
 use Rattle.growth.proofs.Ordered.{writes-once}
-use Rattle.state.specs.Places.{headPlace, writersPlace, writerIn}
+use Rattle.state.specs.Places.{writersPlace}
+use Rattle.state.specs.Lookup.{visibleIn}
 use Rattle.state.specs.Keeps.{IsSet}
 use Rattle.state.proofs.Sets.{isSet-as, isSet-without}
 use Rattle.views.specs.Viewed.{NewMasks}
@@ -69,7 +71,10 @@ module _ (s : Store) (old u : View) (n : ℕ) (versions keys masks : List ℕ) (
   abbrev pub LackedAt : Key → CommitNumber → Type 0
   LackedAt k t = (i : ℕ) × (¬ T (has (u k) i)) × Wrote s t k i
 
-  module _ (p : Prefixes fresh n) (k : Key) (l : k < n) {v : ℕ} (d : v ≡ highest (getD fresh k 0)) {w : ℕ} (e : w ≡ writerIn (getD versions (headPlace k v) 0)) where
+  module _ (p : Prefixes fresh n) (k : Key) (l : k < n) {v : Visible} (e : v ≡ visibleIn versions (getD fresh k 0) k) where
+    abbrev w : CommitNumber
+    w = v .writer
+
     mask : getD fresh k 0 ≡ u k
     mask = m .in-fresh .masks k l
 
@@ -83,7 +88,7 @@ module _ (s : Store) (old u : View) (n : ℕ) (versions keys masks : List ℕ) (
     top-there = exist s old u n versions keys masks base seen fresh m good k (highest (u k)) top-held
 
     top-wrote : Wrote s w k (highest (u k))
-    top-wrote = (top-there, sym (e ∙ ap (λ (j : ℕ). writerIn (getD versions (headPlace k j) 0)) (d ∙ ap highest mask) ∙ writer-in s old n versions keys masks base (m .arrays) k (highest (u k)) top-there))
+    top-wrote = (top-there, sym (ap (λ (x : Visible). x .writer) e ∙ ap (λ (x : Set). visibleIn versions x k .writer) mask ∙ writer-in s old n versions keys masks base (m .arrays) k (highest (u k)) top-there))
 
     held-low : (t i : ℕ) → Wrote s t k i → T (has (u k) i) → t < w + 1
     held-low t i x h = go (decLt i (highest (u k)))

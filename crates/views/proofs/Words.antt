@@ -1,6 +1,6 @@
 -- What the words in the arrays say: sets that have a number in common, and the writer in a head. Assumes nothing.
-use Prim.Native.Nat.{ℕ, _+_, _*_, _^_, _≤_, _<_}
-use mathlib.Core.Path.{_≡_, refl, ap, _∙_}
+use Prim.Native.Nat.{ℕ, _^_, _<_}
+use mathlib.Core.Path.{_≡_, ap, _∙_}
 use mathlib.Core.Logic.{_↔_, _≢_}
 use mathlib.Core.List.{List}
 use native.Mathlib.Omega.{arith}
@@ -14,6 +14,7 @@ use Rattle.sets.proofs.Laws.{has-lowest}
 use Rattle.sets.proofs.Algebra.{both-is, empty-is}
 use Rattle.store.specs.Store.{View, Store, count, version}
 use Rattle.state.specs.Places.{headPlace, readersPlace, writerIn}
+use Rattle.state.proofs.Lookup.{writer-in-head}
 use Rattle.views.specs.Words.{meets}
 use Rattle.views.specs.Rules.{StoreAndView, byWriter, byReader}
 
@@ -44,14 +45,7 @@ meets-is a b l = (λ t. let n = not-is (eqb (bitAnd a b) 0) (eq-is _ 0) .0 t in 
 module _ (s : Store) (u : View) (n : ℕ) (versions keys masks : List ℕ) (base : ℕ) (h : StoreAndView s u n versions keys masks base)
     (k i : ℕ) (l : i < count s k) where
   pub writer-in : writerIn (getD versions (headPlace k i) 0) ≡ version s k i .writer
-  unfolding writerIn
-  writer-in =
-      let w = version s k i .writer in
-      let x = version s k i .value in
-      let b : w ≤ s .commits = let m : w < _ = h .sound .writers w k i (l, refl) in omega arith in
-      let f : x < 2 ^ 32 = h .in-versions .value-fits k i l in
-      let e : getD versions (headPlace k i) 0 ≡ x + 2 ^ 32 * w = h .in-versions .heads k i l in
-      omega (arith, h .few)
+  writer-in = writer-in-head s (h .sound) (omega (arith, h .few)) k i l (h .in-versions .heads k i l) (h .in-versions .value-fits k i l)
 
   pub written-by : (set : Set) {w : ℕ} → w ≡ writerIn (getD versions (headPlace k i) 0) → has set w ≡ byWriter s set k i
   written-by set e = ap (has set) (e ∙ writer-in)

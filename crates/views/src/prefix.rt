@@ -1,6 +1,7 @@
 // Masks that hold, of each key, all versions up to some: the store as it was at some time, or how a replica sees it that takes in what
 // it gets in the order of the commits. As writers rise with the version number, the commits of which such masks hold a version are found
 // without a look at each version.
+use state::Key;
 ghost use mathlib.Core.Path.{_≡_};
 ghost use mathlib.Core.Bool.{true};
 ghost use mathlib.Core.Option.{none};
@@ -56,7 +57,7 @@ pub fn split(versions: &[u64], keys: &[u64], fresh: &[u64], n: usize) -> Parts
     let mut lacking = 0u64;
     let mut k: usize = 0;
     while k < n {
-        let writer = state::writer_of(versions[state::PER_KEY * k + state::newest(fresh[k]).0]);
+        let writer = state::newest_visible(versions, fresh[k], Key(k)).writer;
         let writers = keys[state::WRITERS + k];
         let later = sets::without(writers, sets::up_to(writer.0));
         held = sets::union(held, sets::without(writers, later));

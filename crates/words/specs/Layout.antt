@@ -17,9 +17,9 @@ use Rattle.placing.specs.declared.Shown.the-variants.{Order, Ring}
 abbrev pub noRoom : ℕ
 noRoom = 255
 
--- a refusal: its code, record, key and version, and a word that is 0
+-- a refusal: its code, record, key, version and writer
 abbrev pub refusalWords : Refusal → List ℕ
-refusalWords r = r .code ∷ r .atRecord ∷ r .key ∷ r .version ∷ 0 ∷ []
+refusalWords r = r .code ∷ r .atRecord ∷ r .key ∷ r .version ∷ r .writer ∷ []
 
 abbrev pub refusalLength : ℕ
 refusalLength = 5

@@ -39,11 +39,12 @@ fn put_refusal(out: &mut [u64], r: Refusal) -> u64
 {
     let key = r.key;
     let version = r.version;
+    let writer = r.writer;
     out[0] = r.code as u64;
     out[1] = r.record as u64;
     out[2] = key.0 as u64;
     out[3] = version.0 as u64;
-    out[4] = 0;
+    out[4] = writer.0 as u64;
     r.code as u64
 }
 

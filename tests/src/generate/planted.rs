@@ -138,11 +138,16 @@ fn plant_meaning(
         }
         commit => plant_in_commit(random, state, commit, code)?,
     };
+    let writer = match code {
+        13 => state.store.get(key, version).writer,
+        _ => OPENING,
+    };
     Some(Refusal {
         code,
         record,
         key: key.0,
         version: version.0,
+        writer: writer.0,
     })
 }
 

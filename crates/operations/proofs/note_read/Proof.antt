@@ -7,9 +7,6 @@ use Rattle.operations.proofs.note_read.Tie as tie
 mul-at : tie.Need-mul-at
 mul-at c = search needs
 
-seen-requires : tie.Need-seen-requires
-seen-requires c κs = search needs
-
 add-at : tie.Need-add-at
 add-at c = search needs
 
@@ -35,14 +32,13 @@ same-length : tie.Need-same-length
 same-length c = search needs
 
 returns : tie.Need-returns
-returns c = rw (c .insert .ensures, c .before .before .before .seen .ensures .0) refl
+returns c = rw (c .insert .ensures) refl
 
 pub note-read-spec : {M : Type 1} → statement M
 note-read-spec =
     tie.close
     (tie.spec
     mul-at
-    seen-requires
     add-at
     add-at-2
     mul-insert

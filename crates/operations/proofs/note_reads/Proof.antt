@@ -5,6 +5,7 @@ use mathlib.Core.Path.{ap, _∙_}
 use mathlib.Core.List.{List}
 use native.Mathlib.Omega.{arith}
 use Rattle.store.specs.Store.{View, Store, Commit}
+use Rattle.store.specs.Update.{Visible}
 use Rattle.growth.specs.Ordered.{Ordered}
 use Rattle.state.specs.Room.{VersionsRoom}
 use Rattle.state.specs.Keeps.{IsSet, KeepsKeys}
@@ -14,7 +15,7 @@ use Rattle.state.proofs.Below.{From, from-none}
 use Rattle.operations.specs.Given.{Given}
 use Rattle.operations.specs.PerKey.{readAt, laterAt}
 use Rattle.operations.proofs.PerKey.{source-read, later-read, reads-turn, all-sources, all-later}
-use Rattle.operations.proofs.Noted.{ReadsPassed, no-reads, read-noted, writer-left, reads-noted}
+use Rattle.operations.proofs.Noted.{ReadsPassed, no-reads, read-noted, seen-left, reads-noted}
 use Rattle.operations.proofs.note_reads.Statement.{statement}
 use Rattle.operations.proofs.note_reads.Tie as tie
 
@@ -41,8 +42,17 @@ lowest-requires c κs = search needs
 turn : (c : tie.After-lowest Inv-loop μ-loop) → c .lowest .result / 2 < c .before .before .before .before .before .before .before .args .n
 turn c = turn-below (c .before .before .loop .inv .2) (omega arith) (c .lowest .ensures .0)
 
-writer-seen-requires : tie.Need-writer-seen-requires Inv-loop μ-loop
-writer-seen-requires c κs = let l = turn (c .before) in (search needs, search needs, omega (arith, l), omega (arith, l))
+add-newest-visible : tie.Need-add-newest-visible Inv-loop μ-loop
+add-newest-visible c = omega (arith, turn (c .before))
+
+mul-newest-visible : tie.Need-mul-newest-visible Inv-loop μ-loop
+mul-newest-visible c = search needs
+
+shared-slice-read-newest-visible : tie.Need-shared-slice-read-newest-visible Inv-loop μ-loop
+shared-slice-read-newest-visible c = omega (arith, turn (c .before .before))
+
+newest-visible-requires : tie.Need-newest-visible-requires Inv-loop μ-loop
+newest-visible-requires c κs = (search needs, omega (arith, turn (c .before .before)))
 
 single-requires : tie.Need-single-requires Inv-loop μ-loop
 single-requires c κs = search needs
@@ -57,7 +67,7 @@ mul-without : tie.Need-mul-without Inv-loop μ-loop
 mul-without c = search needs
 
 shared-slice-read-without : tie.Need-shared-slice-read-without Inv-loop μ-loop
-shared-slice-read-without c = omega (arith, turn (c .before .before .before .before .before))
+shared-slice-read-without c = omega (arith, turn (c .before .before .before .before .before .before .before .before))
 
 up-to-requires : tie.Need-up-to-requires Inv-loop μ-loop
 up-to-requires c κs = search needs
@@ -69,7 +79,7 @@ union-requires-2 : tie.Need-union-requires-2 Inv-loop μ-loop
 union-requires-2 c κs = search needs
 
 note-read-requires : tie.Need-note-read-requires Inv-loop μ-loop
-note-read-requires c κs = let l = turn (c .before .before .before .before .before .before .before .before .before) in (search needs, search needs, omega (arith, l), omega (arith, l), search needs)
+note-read-requires c κs = (search needs, omega (arith, turn (c .before .before .before .before .before .before .before .before .before .before .before .before)), search needs, search needs)
 
 rest-requires : tie.Need-rest-requires Inv-loop μ-loop
 rest-requires c κs = search needs
@@ -83,22 +93,24 @@ loop-again c =
     let joining = noting .before .before in
     let reading = joining .before .before .before .before in
     let looking = reading .before .before .before .before in
-    let (k, small, h, room, p) = looking .before .before .loop .inv in
-    let q = ap (λ (x : ℕ). x / 2) (looking .lowest .ensures .0) in
+    let turning = looking .before .before .before in
+    let (k, small, h, room, p) = turning .before .before .loop .inv in
+    let q = ap (λ (x : ℕ). x / 2) (turning .lowest .ensures .0) in
     let (_, l, r, _) = next-key h (omega arith) q in (
-      looking .lowest .result / 2 + 1,
+      turning .lowest .result / 2 + 1,
       omega (arith, l),
       left-rest h (omega arith) q (c .rest .ensures .0),
       omega arith,
-      λ s u d values g. (
-        read-noted g _ h (looking .before .before .before .before .before .before .before .pre .4) (omega arith) q _ (noting .note-read .ensures) (p s u d values g .0),
-        λ kept o.
-            let w = reading .before .before .writer-seen .ensures .0 ∙ writer-left g _ h (omega arith) q _ (p s u d values g .0) in
-            let x = p s u d values g .1 kept o in (
-              reads-turn g h (readAt s u d) (λ q t x. x .0) _ (x .0) (omega arith) q _ (reading .union .ensures) (source-read g _ l r w (reading .before .single .ensures)),
-              reads-turn g h (laterAt s u d) (λ q t x. x .0) _ (x .1) (omega arith) q _ (joining .union2 .ensures) (later-read g _ l r w o kept (joining .before .before .up-to .ensures) (joining .before .without .ensures)),
-            ),
-      ),
+      λ s u d values g.
+          let sees = looking .newest-visible .ensures .0 ∙ seen-left g _ h (omega arith) q _ (p s u d values g .0) in (
+            read-noted g _ h (turning .before .before .before .before .before .before .before .pre .4) (omega arith) q _ (ap (λ (v : Visible). v .version) sees) (noting .note-read .ensures) (p s u d values g .0),
+            λ kept o.
+                let w = ap (λ (v : Visible). v .writer) sees in
+                let x = p s u d values g .1 kept o in (
+                  reads-turn g h (readAt s u d) (λ q t x. x .0) _ (x .0) (omega arith) q _ (reading .union .ensures) (source-read g _ l r w (reading .before .single .ensures)),
+                  reads-turn g h (laterAt s u d) (λ q t x. x .0) _ (x .1) (omega arith) q _ (joining .union2 .ensures) (later-read g _ l r w o kept (joining .before .before .up-to .ensures) (joining .before .without .ensures)),
+                ),
+          ),
     )
 
 same-length : tie.Need-same-length Inv-loop μ-loop
@@ -120,7 +132,10 @@ note-reads-spec =
     keys-with-requires
     loop-holds
     lowest-requires
-    writer-seen-requires
+    add-newest-visible
+    mul-newest-visible
+    shared-slice-read-newest-visible
+    newest-visible-requires
     single-requires
     union-requires
     add-without

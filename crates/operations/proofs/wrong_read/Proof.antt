@@ -1,16 +1,15 @@
 -- `operations::wrong_read` meets its contract. The keys passed are not read wrongly. Assumes nothing.
 use borrow.Author.Needs.{needs}
 use Prim.Native.Nat.{ℕ, _+_, _/_, _≤_, _<_}
-use mathlib.Core.Path.{ap, sym, _∙_}
+use mathlib.Core.Path.{ap}
 use native.Mathlib.Omega.{arith}
 use lib.Dec.{T}
-use Rattle.search.proofs.Tests.{false-T}
 use Rattle.store.specs.Store.{View, Store, Commit}
 use Rattle.store.specs.Refusal.{wrongAt}
 use Rattle.state.specs.Accesses.{Left}
 use Rattle.state.proofs.Accesses.{next-key, left-rest, left-none, turn-below}
 use Rattle.operations.specs.Given.{Given}
-use Rattle.operations.proofs.Reading.{wrong-skip, wrong-one, wrong-found, wrong-none}
+use Rattle.operations.proofs.Reading.{wrong-skip, wrong-one, wrong-means, wrong-found, wrong-none}
 use Rattle.operations.proofs.wrong_read.Statement.{statement}
 use Rattle.operations.proofs.wrong_read.Tie as tie
 
@@ -31,17 +30,38 @@ loop-holds c = (0, omega arith, c .keys-with .ensures, λ s u d g q l. absurd (o
 lowest-requires : tie.Need-lowest-requires Inv-loop μ-loop
 lowest-requires c κs = search needs
 
-wrong-at-requires : tie.Need-wrong-at-requires Inv-loop μ-loop
-wrong-at-requires c κs = let l = turn-below (c .before .before .loop .inv .2) (omega arith) (c .lowest .ensures .0) in (search needs, search needs, omega (arith, l), omega (arith, l), search needs)
+-- the key of the turn is one of the n keys
+turn : (c : tie.After-lowest Inv-loop μ-loop) → c .lowest .result / 2 < c .before .before .before .before .before .before .before .args .n
+turn c = turn-below (c .before .before .loop .inv .2) (omega arith) (c .lowest .ensures .0)
 
-seen-requires : tie.Need-seen-requires Inv-loop μ-loop
-seen-requires c κs = let l = turn-below (c .before .before .before .before .loop .inv .2) (omega arith) (c .before .before .lowest .ensures .0) in (search needs, omega (arith, l))
+add-newest-visible : tie.Need-add-newest-visible Inv-loop μ-loop
+add-newest-visible c = omega (arith, turn c)
+
+mul-newest-visible : tie.Need-mul-newest-visible Inv-loop μ-loop
+mul-newest-visible c = search needs
+
+shared-slice-read-newest-visible : tie.Need-shared-slice-read-newest-visible Inv-loop μ-loop
+shared-slice-read-newest-visible c = omega (arith, turn (c .before))
+
+newest-visible-requires : tie.Need-newest-visible-requires Inv-loop μ-loop
+newest-visible-requires c κs = (search needs, omega (arith, turn (c .before)))
+
+mul-if1 : tie.Need-mul-if1 Inv-loop μ-loop
+mul-if1 c = omega (arith, turn (c .before .before))
+
+mul-if1-2 : tie.Need-mul-if1-2 Inv-loop μ-loop
+mul-if1-2 c = search needs
+
+shared-slice-read-if1 : tie.Need-shared-slice-read-if1 Inv-loop μ-loop
+shared-slice-read-if1 c = omega (arith, turn (c .before .before .before))
 
 returns : tie.Need-returns Inv-loop μ-loop
 returns c =
-    let (k, small, h, p) = c .before .before .before .before .before .loop .inv in
-    let (b, l, r, none) = next-key h (omega arith) (ap (λ (x : ℕ). x / 2) (c .before .before .before .lowest .ensures .0)) in
-    λ s u d g. wrong-found g _ l (wrong-skip g k _ (omega (arith, l)) none (p s u d g)) (sym (c .before .if1 .taken) ∙ c .before .before .wrong-at .ensures s u d _ _ g l r) (c .seen .ensures .0)
+    let looked = c .before .before .before in
+    let (k, small, h, p) = looked .before .before .before .before .loop .inv in
+    let (b, l, r, none) = next-key h (omega arith) (ap (λ (x : ℕ). x / 2) (looked .before .before .lowest .ensures .0)) in
+    let sees = looked .newest-visible .ensures .0 in
+    λ s u d g. wrong-found g _ l sees (wrong-skip g k _ (omega (arith, l)) none (p s u d g)) (wrong-means g _ l sees r .1 (c .if1 .taken))
 
 rest-requires : tie.Need-rest-requires Inv-loop μ-loop
 rest-requires c κs = search needs
@@ -51,13 +71,14 @@ loop-less c = search needs
 
 loop-again : tie.Need-loop-again Inv-loop μ-loop
 loop-again c =
-    let (k, small, h, p) = c .before .before .before .before .before .loop .inv in
-    let q = ap (λ (x : ℕ). x / 2) (c .before .before .before .lowest .ensures .0) in
+    let looked = c .before .before .before .before in
+    let (k, small, h, p) = looked .before .before .before .before .loop .inv in
+    let q = ap (λ (x : ℕ). x / 2) (looked .before .before .lowest .ensures .0) in
     let (b, l, r, none) = next-key h (omega arith) q in (
-      c .before .before .before .lowest .result / 2 + 1,
+      looked .before .before .lowest .result / 2 + 1,
       omega (arith, l),
       left-rest h (omega arith) q (c .rest .ensures .0),
-      λ s u d g. wrong-one g _ (wrong-skip g k _ (omega (arith, l)) none (p s u d g)) (false-T _ (sym (c .before .before .wrong-at .ensures s u d _ _ g l r) ∙ c .before .if1 .left)),
+      λ s u d g. wrong-one g _ (wrong-skip g k _ (omega (arith, l)) none (p s u d g)) (λ w. wrong-means g _ l (looked .newest-visible .ensures .0) r .0 w (c .before .if1 .left)),
     )
 
 returns-2 : tie.Need-returns-2 Inv-loop μ-loop
@@ -74,8 +95,13 @@ wrong-read-spec =
     keys-with-requires
     loop-holds
     lowest-requires
-    wrong-at-requires
-    seen-requires
+    add-newest-visible
+    mul-newest-visible
+    shared-slice-read-newest-visible
+    newest-visible-requires
+    mul-if1
+    mul-if1-2
+    shared-slice-read-if1
     returns
     rest-requires
     loop-less

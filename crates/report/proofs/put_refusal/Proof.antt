@@ -1,6 +1,7 @@
 -- `report::put_refusal` meets its contract: the fields of the line, one behind the other. Assumes nothing.
 use Rattle.text.proofs.Put.{put-both}
-use Rattle.report.specs.Report.{refusalLine}
+use Rattle.state.specs.Answers.{refusalOf}
+use Rattle.report.proofs.Refusals.{put-fields}
 use borrow.Author.Needs.{needs}
 use Rattle.report.proofs.put_refusal.Statement.{statement}
 use Rattle.report.proofs.put_refusal.Tie as tie
@@ -29,23 +30,20 @@ slice-aggregate-put-field-4 c = search needs
 put-field-requires-4 : tie.Need-put-field-requires-4
 put-field-requires-4 c κs = search needs
 
-slice-aggregate-put-bytes : tie.Need-slice-aggregate-put-bytes
-slice-aggregate-put-bytes c = search needs
-
-put-bytes-requires : tie.Need-put-bytes-requires
-put-bytes-requires c κs = search needs
+put-end-requires : tie.Need-put-end-requires
+put-end-requires c κs = search needs
 
 same-length : tie.Need-same-length
 same-length c = search needs
 
 returns : tie.Need-returns
-unfolding refusalLine
 returns c =
-    let whole = c .before .before .before .before .before .before .before in
+    let whole = c .before .before .before .before .before .before in
     let keyed = whole .before .before .before .before .before in
     let named = keyed .before .before .before .before .before in
     let first = named .before .before .before .before .before in (
-      put-both (first .put-field .ensures .0) (put-both (named .put-field2 .ensures .0) (put-both (keyed .put-field3 .ensures .0) (put-both (whole .put-field4 .ensures .0) (c .before .before .put-bytes .ensures)))),
+      put-fields (refusalOf (c .before .before .before .before .before .before .before .before .before .before .before .before .before .before .before .before .before .before .before .before .before .before .before .before .before .before .before .args .refusal))
+          (put-both (first .put-field .ensures .0) (put-both (named .put-field2 .ensures .0) (put-both (keyed .put-field3 .ensures .0) (put-both (whole .put-field4 .ensures .0) (c .before .before .put-end .ensures .0))))),
       search needs,
     )
 
@@ -61,7 +59,6 @@ put-refusal-spec =
     put-field-requires-3
     slice-aggregate-put-field-4
     put-field-requires-4
-    slice-aggregate-put-bytes
-    put-bytes-requires
+    put-end-requires
     same-length
     returns)

@@ -14,13 +14,13 @@ slice-write-out : tie.Need-slice-write-out
 slice-write-out c = search needs
 
 slice-write-out-2 : tie.Need-slice-write-out-2
-slice-write-out-2 c = simp length-set (omega (arith, c .before .before .pre))
+slice-write-out-2 c = simp length-set (omega (arith, c .before .before .before .pre))
 
 slice-write-out-3 : tie.Need-slice-write-out-3
-slice-write-out-3 c = simp length-set (omega (arith, c .before .before .pre))
+slice-write-out-3 c = simp length-set (omega (arith, c .before .before .before .pre))
 
 slice-write-out-4 : tie.Need-slice-write-out-4
-slice-write-out-4 c = simp length-set (omega (arith, c .before .before .pre))
+slice-write-out-4 c = simp length-set (omega (arith, c .before .before .before .pre))
 
 slice-write-out-5 : tie.Need-slice-write-out-5
 slice-write-out-5 c = search needs
@@ -30,7 +30,7 @@ same-length c = search needs
 
 returns : tie.Need-returns
 returns c =
-    let start = c .before .before in
+    let start = c .before .before .before in
     (refl, sets-eq (refusalWords (refusalOf (start .args .r))) (now (start .args .out)) 0 (start .pre))
 
 pub put-refusal-spec : {M : Type 1} → statement M

@@ -4,7 +4,7 @@ use native.Mathlib.Omega.{arith}
 use lib.Dec.{T}
 use Rattle.store.specs.Store.{View, Store, Commit}
 use Rattle.store.specs.Refusal.{oldNumber}
-use Rattle.state.specs.Answers.{placeOf}
+use Rattle.state.specs.Answers.{sightingOf}
 use Rattle.commits.specs.Codes.{EarlyGiven}
 use Rattle.commits.proofs.Cases.{early-old, early-wrong, early-none, bar-is}
 use borrow.Author.Needs.{needs}
@@ -50,18 +50,18 @@ enum-known-wrong c = search needs
 enum-told : tie.Need-enum-told
 enum-told c = search needs
 
-of-version-requires : tie.Need-of-version-requires
-of-version-requires c κs = search needs
+of-read-requires : tie.Need-of-read-requires
+of-read-requires c κs = search needs
 
 returns-2 : tie.Need-returns-2
 returns-2 c =
     let tested = c .before .before .before .before in
-    λ s u k g. early-wrong _ s u k (new-number tested s u k g) (sym (tested .wrong-read .ensures s u k (g .given)) ∙ ap placeOf (c .before .before .wrong .given .1)) (c .of-version .ensures)
+    λ s u k g. early-wrong _ s u k (new-number tested s u k g) (sym (tested .wrong-read .ensures s u k (g .given)) ∙ ap sightingOf (c .before .before .wrong .given .1)) (c .of-read .ensures)
 
 returns-3 : tie.Need-returns-3
 returns-3 c =
     let tested = c .before .before in
-    λ s u k g. early-none _ s u k (new-number tested s u k g) (sym (tested .wrong-read .ensures s u k (g .given)) ∙ ap placeOf (c .enum-told .given .1))
+    λ s u k g. early-none _ s u k (new-number tested s u k g) (sym (tested .wrong-read .ensures s u k (g .given)) ∙ ap sightingOf (c .enum-told .given .1))
 
 pub early-spec : {M : Type 1} → statement M
 early-spec =
@@ -75,7 +75,7 @@ early-spec =
     mul-wrong-read
     wrong-read-requires
     enum-known-wrong
-    of-version-requires
+    of-read-requires
     enum-told
     returns-2
     returns-3)

@@ -28,29 +28,14 @@ abbrev μ-loop : tie.MeasureT-loop
 loop-holds : tie.Need-loop-holds Inv-loop μ-loop
 loop-holds c = (omega arith, λ s old u masks base seen m good p. (from-none (HeldAt s old u _ _ _ masks base seen _ m good), from-none (LackedAt s old u _ _ _ masks base seen _ m good)))
 
-mul-writer-of : tie.Need-mul-writer-of Inv-loop μ-loop
-mul-writer-of c = search needs
+mul-newest-visible : tie.Need-mul-newest-visible Inv-loop μ-loop
+mul-newest-visible c = search needs
 
-mul-newest : tie.Need-mul-newest Inv-loop μ-loop
-mul-newest c = search needs
+shared-slice-read-newest-visible : tie.Need-shared-slice-read-newest-visible Inv-loop μ-loop
+shared-slice-read-newest-visible c = search needs
 
-shared-slice-read-newest : tie.Need-shared-slice-read-newest Inv-loop μ-loop
-shared-slice-read-newest c = search needs
-
-newest-requires : tie.Need-newest-requires Inv-loop μ-loop
-newest-requires c κs = search needs
-
-add-writer-of : tie.Need-add-writer-of Inv-loop μ-loop
-add-writer-of c = search needs
-
-mul-writer-of-2 : tie.Need-mul-writer-of-2 Inv-loop μ-loop
-mul-writer-of-2 c = search needs
-
-shared-slice-read-writer-of : tie.Need-shared-slice-read-writer-of Inv-loop μ-loop
-shared-slice-read-writer-of c = search needs
-
-writer-of-requires : tie.Need-writer-of-requires Inv-loop μ-loop
-writer-of-requires c κs = search needs
+newest-visible-requires : tie.Need-newest-visible-requires Inv-loop μ-loop
+newest-visible-requires c κs = search needs
 
 add-writers : tie.Need-add-writers Inv-loop μ-loop
 add-writers c = search needs
@@ -86,9 +71,9 @@ loop-again : tie.Need-loop-again Inv-loop μ-loop
 loop-again c = (
   omega arith,
   λ s old u masks base seen m good p.
-      let x = c .before .before .before .before .before .before .before .before .before .before .before .before .loop .inv .1 s old u masks base seen m good p in
-      let l = later-is s old u _ _ _ masks base seen _ m good p _ (omega arith) (c .before .before .before .before .before .before .before .before .before .newest .ensures .0) (c .before .before .before .before .before .before .writer-of .ensures .0) (c .before .before .before .before .up-to .ensures) (c .before .before .before .without .ensures) in
-      let h = held-is s old u _ _ _ masks base seen _ m good p _ (omega arith) (c .before .before .before .before .before .before .before .before .before .newest .ensures .0) (c .before .before .before .before .before .before .writer-of .ensures .0) (c .before .before .before .before .up-to .ensures) (c .before .before .before .without .ensures) (c .before .before .without2 .ensures) in (
+      let x = c .before .before .before .before .before .before .before .before .before .before .loop .inv .1 s old u masks base seen m good p in
+      let l = later-is s old u _ _ _ masks base seen _ m good p _ (omega arith) (c .before .before .before .before .before .before .before .newest-visible .ensures .0) (c .before .before .before .before .up-to .ensures) (c .before .before .before .without .ensures) in
+      let h = held-is s old u _ _ _ masks base seen _ m good p _ (omega arith) (c .before .before .before .before .before .before .before .newest-visible .ensures .0) (c .before .before .before .before .up-to .ensures) (c .before .before .before .without .ensures) (c .before .before .without2 .ensures) in (
         key-more (HeldAt s old u _ _ _ masks base seen _ m good) _ (x .0) _ h (c .before .union .ensures),
         key-more (LackedAt s old u _ _ _ masks base seen _ m good) _ (x .1) _ l (c .union2 .ensures),
       ),
@@ -108,14 +93,9 @@ split-spec =
     Inv-loop
     μ-loop
     loop-holds
-    mul-writer-of
-    mul-newest
-    shared-slice-read-newest
-    newest-requires
-    add-writer-of
-    mul-writer-of-2
-    shared-slice-read-writer-of
-    writer-of-requires
+    mul-newest-visible
+    shared-slice-read-newest-visible
+    newest-visible-requires
     add-writers
     mul-writers
     shared-slice-read-writers
