@@ -66,22 +66,24 @@ extern "C" {
  *       18 | the session is closed                                                   |
  *       19 | no order of the commits gives the image; a ring is shown                |
  *       20 | the image is misshapen                                                  |
+ *       21 | there are fewer rows than commits                                       |
  *       22 | the file that is to be written has more than 65,536 bytes               |
  *
  * A writer is a commit's number, from 1, those without operations counted; 0 is the opening transaction, which wrote version 0 of each key.
  *
  * A call gives these and no others:
  *
- *     call          | codes
- *     --------------|-------------------------------------
- *     judge_file    | 1 to 14, then 15
- *     plain_file    | 1 to 14
- *     replay_file   | 1 to 14, then 16, then 17
- *     short_file    | 1 to 14, then 22, then 17
- *     long_file     | 1 to 14, then 22, then 17
- *     judge_image   | 20, then 17, then 19
- *     push_piece    | 18
- *     close_session | 18, then 17, then 1 to 14, then 15
+ *     call            | codes
+ *     ----------------|-------------------------------------
+ *     judge_file      | 1 to 14, then 15
+ *     plain_file      | 1 to 14
+ *     replay_file     | 1 to 14, then 16, then 17
+ *     short_file      | 1 to 14, then 22, then 17
+ *     long_file       | 1 to 14, then 22, then 17
+ *     visibility_file | 1 to 14, then 15, then 21
+ *     judge_image     | 20, then 17, then 19
+ *     push_piece      | 18
+ *     close_session   | 18, then 17, then 1 to 14, then 15
  *
  * More bytes than the longest file has are code 1 before 17. Of several that are due the first is answered, in the order that
  * docs/FORMAT.md gives. */
@@ -224,6 +226,20 @@ uint64_t judge_image(const uint8_t *image, size_t image_length,
 #define CONSISTENCY_MOST_COMMITS 63
 #define CONSISTENCY_IMAGE_WORDS 5
 #define CONSISTENCY_IMAGE_STACK 8192
+
+/* Judges the trace file in the first `file_length` bytes at `file` as `judge_file` does, with the same code, words and image, and says which commit is
+ * visible to which: the later one's view held a version that the earlier wrote.
+ *
+ * Code 0: row 0 of `rows` is that of commit 1, row 1 that of commit 2, and so on; bit c of a row is set exactly if commit c is visible to it, and bit
+ * 0 never is. The rows behind these are as they were. Code 21, after every refusal of `judge_file`: `rows` has fewer rows than there are commits;
+ * CONSISTENCY_MOST_COMMITS are never too few. The image is then left as with code 0. Any refusal writes no row. Where `words` has less than
+ * CONSISTENCY_JUDGE_WORDS, the code is 255. */
+uint64_t visibility_file(const uint8_t *file, size_t file_length,
+                         uint8_t *image, size_t image_length,
+                         uint64_t *rows, size_t rows_length,
+                         uint64_t *words, size_t words_length);
+
+#define CONSISTENCY_VISIBILITY_STACK 81920
 
 /* A trace file that comes in pieces, of any size and cut anywhere, empty ones too. The record stays with the caller, and each call changes it
  * in place; the bytes are kept in a second place, `kept`, which is to have CONSISTENCY_LONGEST_FILE bytes and is lent with each call, the same

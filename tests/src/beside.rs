@@ -2,20 +2,21 @@
 //! the same words, and the same bytes in the lent buffer, whatever its length.
 
 use crate::bare::{is_ring, links, shaped, show, Bare, Shown};
-use crate::buffer::{pattern, UNTOUCHED};
+use crate::buffer::{pattern, LONG, UNTOUCHED};
 use crate::generate::pieces;
 use crate::port::{Port, Record, CLOSED};
 use crate::random::Random;
 use crate::store::CommitNumber;
+use crate::visibility;
 use crate::words::shown_words;
 use crate::{
     answer, replayed, written_in, Answer, Call, Conversion, Edition, Outcome, Replay, Verdict,
 };
 use consistency::{
     close_session, judge, judge_image, judge_image_words, judge_words, long_words, open_session,
-    plain_words, push_piece, replay, replay_words, report_session, short_words, Key, Refusal, Session,
-    SessionRecord, Verdicts, VersionNumber, CONVERSION_WORDS, IMAGE_WORDS, JUDGE_WORDS,
-    LONGEST_FILE, REPLAY_WORDS,
+    plain_words, push_piece, replay, replay_words, report_session, short_words, visibility_words,
+    Key, Refusal, Session, SessionRecord, Verdicts, VersionNumber, CONVERSION_WORDS, IMAGE_WORDS,
+    JUDGE_WORDS, LONGEST_FILE, REPLAY_WORDS,
 };
 
 /// Words behind those of an answer, which must not be touched.
@@ -204,6 +205,56 @@ pub fn compare_image(name: &str, image: &[u8], bare: &Bare, length: usize) -> u8
     assert_eq!(judge_image(image, &mut bytes), told, "{name}");
     assert!(bytes == due_bytes, "{name}: other bytes");
     shown.code()
+}
+
+/// Holds the answer of the call that says which commit is visible to which, for a
+/// file, an image buffer of this length and a table of so many rows, to what the
+/// model says of the file: code, words, every byte and every row. Answers the code.
+pub fn compare_visibility(
+    name: &str,
+    file: &[u8],
+    outcome: &Outcome,
+    room: usize,
+    rows: usize,
+) -> u8 {
+    let name = format!("visibility, {name}, buffer of {room}, {rows} rows");
+    let (mut due_bytes, mut due_rows) = (pattern(room), visibility::pattern(rows));
+    let due = visibility::reported(outcome, &mut due_bytes, &mut due_rows);
+    let mut due_words = crate::words::judge_words(&due);
+    due_words.resize(JUDGE_WORDS + BEHIND, UNTOUCHED);
+
+    let (mut bytes, mut table) = (pattern(room), visibility::pattern(rows));
+    let mut words = vec![UNTOUCHED; JUDGE_WORDS + BEHIND];
+    let code = visibility_words(file, &mut bytes, &mut table, &mut words);
+    assert_eq!(code, u64::from(due.code()), "{name}");
+    assert_eq!(words, due_words, "{name}");
+    assert!(bytes == due_bytes, "{name}: other bytes");
+    assert_eq!(table, due_rows, "{name}");
+
+    let (mut bytes, mut table) = (pattern(room), visibility::pattern(rows));
+    let told = consistency::visibility(file, &mut bytes, &mut table);
+    assert_eq!(told, told_answer(&due), "{name}");
+    assert!(bytes == due_bytes, "{name}: other bytes");
+    assert_eq!(table, due_rows, "{name}");
+    due.code()
+}
+
+/// The same with every number of rows that is tried and an image buffer that is
+/// just long enough; and, with just enough rows and one less, one that is a byte too
+/// short and a long one.
+pub fn compare_visibilities(name: &str, file: &[u8], outcome: &Outcome) -> Vec<u8> {
+    let taken = outcome.as_ref().ok();
+    let commits = taken.map_or(0, |taken| taken.store.authors.len());
+    let needed = taken.map_or(1, |taken| taken.image.len());
+    let tables = visibility::tables(commits).into_iter();
+    let mut pairs: Vec<(usize, usize)> = tables.map(|rows| (needed, rows)).collect();
+    for rows in [commits.saturating_sub(1), commits] {
+        pairs.extend([(needed - 1, rows), (LONG, rows)]);
+    }
+    pairs
+        .into_iter()
+        .map(|(room, rows)| compare_visibility(name, file, outcome, room, rows))
+        .collect()
 }
 
 /// Answers of the model in the types for callers in Rust.

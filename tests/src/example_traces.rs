@@ -1,6 +1,7 @@
 //! Section "Traces from the bench", the example traces A to K, the last of I as
-//! request E7 amends it, and trace L of request E4, with the answers that the
-//! papers give, or that follow from them where they say "the rest".
+//! request E7 amends it, trace L of request E4, and M, which shows what request
+//! E14 does not claim, with the answers that the papers give, or that follow from
+//! them where they say "the rest".
 
 use crate::by_hand::{self, commit, read, shift};
 use crate::levels::place_of;
@@ -26,7 +27,11 @@ pub enum Expected {
 
 /// All of them in the papers' order.
 pub fn all() -> Vec<ExampleTrace> {
-    a_to_g().into_iter().chain(h_to_k()).chain([l()]).collect()
+    a_to_g()
+        .into_iter()
+        .chain(h_to_k())
+        .chain([l(), m()])
+        .collect()
 }
 
 /// A file that is the encoding of its trace.
@@ -153,6 +158,11 @@ fn l() -> ExampleTrace {
             ("SI", refused(2, 2, 1, 0, 1)),
         ]),
     )
+}
+
+/// Visibility that is not transitive, though every level but SER accepts.
+fn m() -> ExampleTrace {
+    whole("M", trace_m(), judged(&[("SER", refused(3, 5, 8, 0, 1))]))
 }
 
 /// Header only, one key.
@@ -311,6 +321,22 @@ pub fn trace_l() -> Trace {
         vec![
             commit(0, 0, &[write(0)], &[&[0, 1]]),
             commit(0, 1, &[read(0, 1)], &[&[0]]),
+        ],
+    )
+}
+
+/// Client 1 sees what client 0 wrote and does not read it; client 2 sees what
+/// client 1 wrote alone.
+pub fn trace_m() -> Trace {
+    trace(
+        2,
+        3,
+        vec![
+            commit(0, 0, &[write(0)], &[&[0, 1], &[0]]),
+            shift(1, &[&[0, 1], &[0]]),
+            commit(1, 0, &[write(1)], &[&[0, 1], &[0, 1]]),
+            shift(2, &[&[0], &[0, 1]]),
+            commit(2, 0, &[read(1, 1)], &[&[0], &[0, 1]]),
         ],
     )
 }

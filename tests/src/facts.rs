@@ -4,9 +4,11 @@
 
 mod editions;
 mod views;
+mod visibility;
 
 pub use editions::editions_hold;
 pub use views::stored_views_hold;
+pub use visibility::{is_transitive, visibility_holds};
 
 use crate::levels::place_of;
 use crate::relations::{

@@ -7,7 +7,7 @@ use crate::{judge_with_room, outcome, report, Call};
 use std::path::{Path, PathBuf};
 
 /// In the order of `example_traces::all`.
-pub const NAMES: [&str; 17] = [
+pub const NAMES: [&str; 18] = [
     "A-header-only",
     "B-lost-update",
     "C-long-fork",
@@ -25,6 +25,7 @@ pub const NAMES: [&str; 17] = [
     "K-64-commits",
     "K-wrong-read-then-kind-9",
     "L-lost-own-write",
+    "M-seen-not-read",
 ];
 
 /// Each trace with the name of its file.

@@ -6,7 +6,8 @@
 //! the calls of requests E1 and E6, which write the replay of a trace, or the
 //! trace in its short or long edition, into a lent file buffer; and the calls of
 //! request E5, by which a trace file comes in pieces; and the call of request E9,
-//! which judges an image whose trace is lost. Everything is sets, maps and lists,
+//! which judges an image whose trace is lost; and that of request E14, which says
+//! which commit is visible to which. Everything is sets, maps and lists,
 //! as near to the wording of the paper as it goes. It is slow on purpose: it is
 //! there to be compared with.
 
@@ -38,6 +39,7 @@ pub mod serial;
 pub mod store;
 pub mod text;
 pub mod trace;
+pub mod visibility;
 pub mod words;
 
 pub use call::Call;
@@ -65,7 +67,7 @@ impl Answer {
     }
 }
 
-/// One code, 1 to 18, 20 or 22, with what it names; 0 where it names nothing.
+/// One code, 1 to 18 or 20 to 22, with what it names; 0 where it names nothing.
 #[derive(Clone, Copy, PartialEq, Eq, PartialOrd, Ord, Debug)]
 pub struct Refusal {
     pub code: u8,

@@ -2,7 +2,7 @@
 
 use crate::files::at;
 use crate::text::{refused, report};
-use crate::{answer, Call, Outcome, Refusal, Taken};
+use crate::{answer, visibility, Call, Outcome, Refusal, Taken};
 use std::io::{ErrorKind, Write};
 use std::path::PathBuf;
 use std::process::{Command, Output, Stdio};
@@ -18,10 +18,12 @@ pub enum Program {
     Of(Call),
     /// Writes the image, by the call that judges.
     Image,
+    /// Prints which commit is visible to which.
+    Visibility,
 }
 
 impl Program {
-    pub const ALL: [Program; 7] = [
+    pub const ALL: [Program; 8] = [
         Program::Of(Call::Judge),
         Program::Of(Call::Replay),
         Program::Of(Call::Short),
@@ -29,20 +31,23 @@ impl Program {
         Program::Of(Call::Port),
         Program::Of(Call::Plain),
         Program::Image,
+        Program::Visibility,
     ];
 
     /// Those that print a report, a refusal too, on standard output; the others
     /// write a file there, or tell a refusal on standard error.
-    pub const REPORTING: [Program; 3] = [
+    pub const REPORTING: [Program; 4] = [
         Program::Of(Call::Judge),
         Program::Of(Call::Port),
         Program::Of(Call::Plain),
+        Program::Visibility,
     ];
 
     pub fn name(self) -> &'static str {
         match self {
             Program::Of(call) => call.name(),
             Program::Image => "image",
+            Program::Visibility => "visibility",
         }
     }
 
@@ -62,6 +67,13 @@ impl Program {
                 Ok(taken) => (taken.image.clone(), String::new()),
                 Err(refusal) => (Vec::new(), refused(refusal)),
             },
+            Program::Visibility => {
+                let text = match outcome {
+                    Ok(taken) => visibility::text(&visibility::rows(&taken.store)),
+                    Err(refusal) => refused(refusal),
+                };
+                (text.into_bytes(), String::new())
+            }
         }
     }
 }

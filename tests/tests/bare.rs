@@ -142,7 +142,7 @@ fn images_of_traces() {
 }
 
 /// What the images of the example traces come to. B and D: each commit read what
-/// the other wrote over. C: the readers saw the writes in opposite orders. F and G
+/// the other wrote over. C: the readers saw the writes in opposite orders. F, G and M
 /// are refused for versions that nobody read, which an image does not show.
 #[test]
 fn examples() {
@@ -160,7 +160,7 @@ fn examples() {
     let numbers: String = (1..=63).map(|number| format!(" {number}")).collect();
     let due = format!(
         "A order\nB ring of 2\nC ring of 4\nD ring of 2\nE order 1 2\nF order 1 2 3\n\
-         G order 1 2 3\nK, 63 commits order{numbers}\nL order 1 2\n"
+         G order 1 2 3\nK, 63 commits order{numbers}\nL order 1 2\nM order 1 2 3\n"
     );
     assert_eq!(lines, due);
 }

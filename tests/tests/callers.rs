@@ -12,6 +12,7 @@ use model::programs::{printed, run, Said};
 use model::random::Random;
 use model::store::Store;
 use model::trace::encode;
+use model::visibility::TOO_FEW_ROWS;
 use model::{convert, judge_with_room, replay, Answer, Call, Edition, Replay, Verdict};
 use std::fs::{self, File, OpenOptions};
 use std::io::Write;
@@ -307,6 +308,7 @@ fn the_numbers_of_the_header() {
     defines("MOST_COMMITS", consistency::MOST_COMMITS);
     defines("IMAGE_WORDS", consistency::IMAGE_WORDS);
     defines("IMAGE_STACK", consistency::IMAGE_STACK);
+    defines("VISIBILITY_STACK", consistency::VISIBILITY_STACK);
     defines("PUSH_STACK", consistency::PUSH_STACK);
     defines("CLOSE_STACK", consistency::CLOSE_STACK);
     let places: Vec<String> = (0..LEVELS.len())
@@ -374,11 +376,12 @@ fn the_table_of_calls() {
         of_files(Call::Replay),
         of_files(Call::Short),
         of_files(Call::Long),
+        format!("{}, then {TOO_FEW_ROWS}", of_files(Call::Judge)),
         "20, then 17, then 19".to_string(),
         CLOSED.to_string(),
         format!("{CLOSED}, then 17, then {}", of_files(Call::Port)),
     ];
-    let due = |names: [String; 8]| -> Vec<Vec<String>> {
+    let due = |names: [String; 9]| -> Vec<Vec<String>> {
         let rows = names.into_iter().zip(codes.clone());
         rows.map(|(name, codes)| vec![name, codes]).collect()
     };
@@ -388,6 +391,7 @@ fn the_table_of_calls() {
         "replay_file",
         "short_file",
         "long_file",
+        "visibility_file",
         "judge_image",
         "push_piece",
         "close_session",
@@ -481,6 +485,7 @@ fn the_stack_of_each_call() {
         ("long_file", consistency::CONVERSION_STACK),
         ("report_file", consistency::REPORT_STACK),
         ("judge_image", consistency::IMAGE_STACK),
+        ("visibility_file", consistency::VISIBILITY_STACK),
         ("open_session", consistency::PUSH_STACK),
         ("push_piece", consistency::PUSH_STACK),
         ("close_session", consistency::CLOSE_STACK),
@@ -532,6 +537,9 @@ fn the_stack_of_each_call_in_rust() {
     });
     on_a_thread(consistency::REPORT_STACK, |file, image, text| {
         consistency::report(file, image, text);
+    });
+    on_a_thread(consistency::VISIBILITY_STACK, |file, image, _| {
+        consistency::visibility(file, image, &mut [0; consistency::MOST_COMMITS]);
     });
     let images = images();
     thread::scope(|scope| {

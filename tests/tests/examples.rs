@@ -94,7 +94,7 @@ fn lengths_of_the_images() {
             lengths += &format!("{} {}, ", example.name, taken.image.len());
         }
     }
-    let due = "A 28, B 92, C 176, D 128, E 76, F 152, G 152, K, 63 commits 2044, L 76, ";
+    let due = "A 28, B 92, C 176, D 128, E 76, F 152, G 152, K, 63 commits 2044, L 76, M 152, ";
     assert_eq!(lengths, due);
 }
 

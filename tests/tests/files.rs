@@ -2,10 +2,11 @@
 //! not, `cargo run --offline --example write_traces` writes them again.
 
 use model::bare::{bare, line};
-use model::example_traces::{trace_b, trace_c, trace_e};
+use model::example_traces::{trace_b, trace_c, trace_e, trace_m};
 use model::files::{arguments, at, files, printed, replay_of, report_of, written_of};
 use model::store::Store;
 use model::trace::encode;
+use model::visibility::{rows, text};
 use model::{outcome, Call};
 use std::collections::BTreeSet;
 use std::fs;
@@ -74,6 +75,10 @@ fn what_the_programs_read_and_print() {
     assert_eq!(kept("crates/short/stdout"), short);
     assert_eq!(kept("crates/long/stdin"), short);
     assert_eq!(kept("crates/long/stdout"), c);
+    let m = encode(&trace_m());
+    let rows = rows(&outcome(&m).expect("taken").store);
+    assert_eq!(kept("crates/visibility/stdin"), m);
+    assert_eq!(kept("crates/visibility/stdout"), text(&rows).as_bytes());
     assert_eq!(kept("crates/vectors/args"), arguments().as_bytes());
     assert_eq!(kept("crates/vectors/stdout"), printed().as_bytes());
 }

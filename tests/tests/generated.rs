@@ -5,6 +5,7 @@ use model::buffer::{pattern, untouched};
 use model::facts::{
     accepts, demand_3_holds, entries_differ, has_ring_without_adjacent_rw,
     has_ring_without_adjacent_rw_by_closure, numbers_rise, stored_views_hold, taken,
+    visibility_holds,
 };
 use model::generate::{file, taken_case, Case, Expected};
 use model::levels::missing;
@@ -13,7 +14,8 @@ use model::own_writes::{changed_verdicts, lacked};
 use model::random::Random;
 use model::run::Run;
 use model::serial::holds_by_hand;
-use model::{answer, form, report, Answer, Call, Outcome, Taken, Verdict};
+use model::visibility::rows;
+use model::{answer, report, Answer, Call, Outcome, Taken, Verdict};
 use std::collections::BTreeSet;
 
 const FILES: u64 = 20_000;
@@ -150,15 +152,16 @@ struct Told {
     by_hand: bool,
 }
 
-/// Demand 3 on a file that is taken, what rule 1 comes to, and what holds of the
-/// views in its image.
+/// Demand 3 on a file that is taken, what rule 1 comes to, what holds of the views
+/// in its image, and of which commit is visible to which.
 fn check_facts(seed: u64, file: &[u8], taken: &Taken) -> Told {
-    let trace = form::read(file).expect("it is taken");
+    let (trace, run) = model::facts::taken(file).expect("it is taken");
     for fact in [
         demand_3_holds(&trace, taken),
         numbers_rise(&taken.store),
         entries_differ(&taken.image),
         stored_views_hold(&taken.image, &taken.report),
+        visibility_holds(&rows(&taken.store), &run, &taken.report),
     ] {
         if let Err(fact) = fact {
             panic!("seed {seed}: {fact}");

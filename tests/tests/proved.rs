@@ -5,7 +5,7 @@ use consistency::{
     judge_words, replay, Answer, Conversion, Replay, Verdict, JUDGE_WORDS, LONGEST_FILE,
     LONGEST_IMAGE, LONGEST_REPLAY, LONGEST_REPORT, NO_ROOM,
 };
-use model::beside::{compare, in_words};
+use model::beside::{compare, compare_visibilities, in_words};
 use model::buffer::{pattern, untouched, LONG};
 use model::files::files;
 use model::generate::{file, growing_case, largest_serial};
@@ -26,6 +26,7 @@ fn compare_from(first: u64) -> Met {
         let name = format!("seed {seed}");
         read_back(&name, &case.bytes, outcome);
         convert_back(&name, &case.bytes, outcome);
+        compare_visibilities(&name, &case.bytes, outcome);
         let calls = Call::ALL.into_iter();
         calls
             .flat_map(|call| compare_all(call, &name, &case.bytes, outcome))

@@ -2,7 +2,8 @@
 //! one sort: each truncation, each length field with each of many lies, each
 //! bit flipped. The files are example traces and generated ones.
 
-use model::beside::compare;
+use model::beside::{compare, compare_visibility};
+use model::buffer::LONG;
 use model::editions::{masks_of_commit, short_commit_len, short_shift_len};
 use model::files::files;
 use model::generate::editions::kinds;
@@ -10,6 +11,7 @@ use model::generate::{exactly_full, record_places, taken_case, FORMER_KEYS};
 use model::random::Random;
 use model::store::Store;
 use model::trace::{commit_len, encode, with_true_length};
+use model::visibility::MOST_ROWS;
 use model::{outcome, Call};
 use std::collections::BTreeMap;
 
@@ -47,6 +49,7 @@ impl Codes {
     /// Compares the answers for one spoiled file.
     fn spoiled(&mut self, name: &str, file: &[u8]) {
         let outcome = outcome(file);
+        compare_visibility(name, file, &outcome, LONG, MOST_ROWS);
         for call in Call::ALL {
             if call.long() > 0 {
                 compare(call, name, file, &outcome, 0);

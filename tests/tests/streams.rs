@@ -196,9 +196,9 @@ fn a_late_writer() {
     }
 }
 
-/// The same pieces, with pauses between them, to both programs that print a
-/// report: they print the same one, whatever it is. No input has more bytes than
-/// show that it is too long.
+/// The same pieces, with pauses between them, to the programs that print what they
+/// say of a file: they print it whole. No input has more bytes than show that it is
+/// too long.
 #[test]
 fn pieces_with_pauses() {
     let full = encode(&exactly_full(&mut Random::seeded(3)).trace);
@@ -206,8 +206,9 @@ fn pieces_with_pauses() {
     long.push(0);
     let inputs = files().into_iter().map(|(_, example)| example.bytes);
     for (seed, input) in inputs.chain([full, long]).enumerate() {
-        let due = Program::Of(Call::Judge).due(&outcome(&input));
+        let outcome = outcome(&input);
         for program in Program::REPORTING {
+            let due = program.due(&outcome);
             let random = &mut Random::seeded(seed as u64);
             let mut child = start(program, Stdio::piped(), Stdio::piped());
             let mut to = child.stdin.take().expect("it is piped");

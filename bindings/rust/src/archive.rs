@@ -64,6 +64,17 @@ extern "C" {
         words_length: usize,
     ) -> u64;
 
+    pub fn visibility_file(
+        file: *const u8,
+        file_length: usize,
+        image: *mut u8,
+        image_length: usize,
+        rows: *mut u64,
+        rows_length: usize,
+        words: *mut u64,
+        words_length: usize,
+    ) -> u64;
+
     pub fn open_session(session: *mut SessionRecord);
 
     pub fn push_piece(

@@ -8,6 +8,7 @@
 //!
 //! A file is given whole, or in pieces to a [`Session`], which has a buffer of
 //! its own for them. An image whose trace is lost is given to [`judge_image`].
+//! [`visibility`] says of the commits of a trace which saw which.
 //!
 //! [`Refusal`] has the table of codes and that of the calls which give them,
 //! [`Verdicts`] that of levels and [`Verdict`] that of clauses.
@@ -23,6 +24,7 @@ mod refusal;
 mod replaying;
 mod report;
 mod session;
+mod visibility;
 
 pub use bare::{judge_image, judge_image_words, Bare, IMAGE_STACK, IMAGE_WORDS, MOST_COMMITS};
 pub use converting::{
@@ -37,6 +39,7 @@ pub use session::{
     close_session, open_session, push_piece, report_session, Session, SessionRecord, CLOSE_STACK,
     PUSH_STACK,
 };
+pub use visibility::{visibility, visibility_words, VISIBILITY_STACK};
 
 /// The most bytes that a trace file may have; a longer one is code 1, and none is
 /// written.

@@ -39,6 +39,7 @@ pub struct CommitNumber(pub usize);
 /// | 18 | the session is closed | |
 /// | 19 | no order of the commits gives the image; a ring is shown | |
 /// | 20 | the image is misshapen | |
+/// | 21 | there are fewer rows than commits | |
 /// | 22 | the file that is to be written has more than 65,536 bytes | |
 ///
 /// A call gives these and no others:
@@ -50,6 +51,7 @@ pub struct CommitNumber(pub usize);
 /// | [`replay`](crate::replay) | 1 to 14, then 16, then 17 |
 /// | [`short`](crate::short) | 1 to 14, then 22, then 17 |
 /// | [`long`](crate::long) | 1 to 14, then 22, then 17 |
+/// | [`visibility`](crate::visibility) | 1 to 14, then 15, then 21 |
 /// | [`judge_image`](crate::judge_image) | 20, then 17, then 19 |
 /// | [`push_piece`](crate::push_piece) | 18 |
 /// | [`close_session`](crate::close_session) | 18, then 17, then 1 to 14, then 15 |

@@ -21,6 +21,8 @@ ghost use Rattle.rejudging.specs.Plain.{plainAnswer, EnginesAgree};
 ghost use Rattle.converting.specs.Answers.{editionOf};
 ghost use Rattle.arranging.specs.Answer.{shownAnswer, shownAfter};
 ghost use Rattle.arranging.specs.Claim.{ImageClaim};
+ghost use Rattle.visible.specs.Claim.{Visibility};
+ghost use Rattle.seeing.specs.Answer.{visibilityAnswer, tableAfter};
 ghost use Rattle.pieces.specs.Piece.{opened, pieceCode, counted, keptAfter};
 ghost use Rattle.pieces.specs.Close.{closeAnswer, closeImage, RefusalKeepsImage, shut};
 ghost use Rattle.pieces.specs.Has.{Has, JudgesJoined};
@@ -179,6 +181,36 @@ pub extern "C" fn judge_image(image: &[u8], shown: &mut [u8], out: &mut [u64]) -
         return words::NO_ROOM;
     }
     words::put_shown(out, arranging::judge_image(image, shown))
+}
+
+// Judges a trace file as `judge_file` does, and says which commit is visible to which (02, E14): for each commit in order a row at the start of `rows`, bit c
+// set exactly if commit c is visible to it, bit 0 never; further rows keep what they had. Or the refusal of `judge_file`; or 21, where there are fewer rows than
+// commits, and then `image` is left as `judge_file` leaves it. Any refusal leaves `rows` as it came. Where there is no room for the words nothing is
+// judged. What holds of the rows, whatever was judged, is `Visibility`.
+#[no_mangle]
+pub extern "C" fn visibility_file(
+    file: &[u8],
+    image: &mut [u8],
+    rows: &mut [u64],
+    out: &mut [u64],
+) -> u64
+    ensures room { λ r. ⌜
+        (length (now (out .entry)) < answerLength
+        → (r ≡ noRoom) × (now (out .exit) ≡ now (out .entry)) × (now (image .exit) ≡ now (image .entry)) × (now (rows .exit) ≡ now (rows .entry)))
+        ⌝ }
+    ensures answer { λ r. ⌜
+        (answerLength ≤ length (now (out .entry))
+        → (r ≡ codeOf (visibilityAnswer (now (file .entry)) (length (now (image .entry))) (length (now (rows .entry)))))
+        × (now (out .exit) ≡ putAt (now (out .entry)) 0 (answerWords (visibilityAnswer (now (file .entry)) (length (now (image .entry))) (length (now (rows .entry))))))
+        × (now (image .exit) ≡ imageAfter (now (file .entry)) (now (image .entry)))
+        × (now (rows .exit) ≡ tableAfter (now (file .entry)) (length (now (image .entry))) (now (rows .entry))))
+        ⌝ }
+    ensures holds { λ _. ⌜ Visibility (now (file .entry)) ⌝ }
+{
+    if words::ANSWER > out.len() {
+        return words::NO_ROOM;
+    }
+    words::put_answer(out, seeing::report(file, image, rows))
 }
 
 // The report on a trace file as text, at the start of `text`, and its length; `image` is left as `judge_file` leaves it. Where `text` is shorter than the

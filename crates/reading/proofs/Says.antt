@@ -9,7 +9,8 @@ use lib.ListN.{length, getD}
 use Rattle.search.proofs.Choose.{choose-yes, choose-no}
 use Rattle.search.proofs.Tests.{and-is, not-is, lt-is, le-is}
 use Rattle.endian.specs.Endian.{leAt}
-use Rattle.store.specs.Store.{Key, CommitNumber, Version, openingVersion, count, version}
+use Rattle.store.specs.Store.{Key, CommitNumber, Version, View, openingVersion, count, version}
+use Rattle.store.specs.Masks.{viewAt}
 use Rattle.ordering.specs.Links.{IsCommit}
 use Rattle.store.specs.Reading.{imageKeys, imageCommits, commitPlace, isCommit, keyPlace, versionAt, versionsAt, keyAt, storeOf}
 use Rattle.reading.specs.Parts.{writerAt, readersAt}
@@ -97,3 +98,9 @@ module _ (b : List ℕ) where
   pub says-session : (t : CommitNumber) → IsCommit (imageCommits b) t → storeOf b .sessionOf t ≡ leAt b (commitPlace b t + 4) 4
   unfolding storeOf
   says-session t c = choose-yes (isCommit b t) _ _ (is-commit t c)
+
+  -- a mask of the view that it was judged from
+  pub says-view : (t : CommitNumber) → IsCommit (imageCommits b) t → (k : Key) → k < imageKeys b → storeOf b .viewOf t k ≡ leAt b (commitPlace b t + 8 + 8 * k) 8
+  unfolding storeOf viewAt
+  says-view t c k l =
+      ap (λ (u : View). u k) (choose-yes (isCommit b t) _ _ (is-commit t c)) ∙ choose-yes (ltb k (imageKeys b)) _ _ (lt-is k (imageKeys b) .1 l)

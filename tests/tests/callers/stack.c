@@ -17,7 +17,7 @@ static _Alignas(4096) volatile uint64_t stack[STACK_WORDS];
 static uint8_t file[CONSISTENCY_LONGEST_FILE + 1024], buffer[CONSISTENCY_LONGEST_IMAGE + CONSISTENCY_LONGEST_REPLAY];
 static uint8_t kept[CONSISTENCY_LONGEST_FILE], text[CONSISTENCY_LONGEST_REPORT];
 static struct consistency_session session;
-static uint64_t words[CONSISTENCY_JUDGE_WORDS];
+static uint64_t words[CONSISTENCY_JUDGE_WORDS], rows[CONSISTENCY_MOST_COMMITS];
 static size_t file_length, buffer_length;
 static const char *start;
 
@@ -63,6 +63,12 @@ static void *judge_one(void *nothing) {
     return nothing;
 }
 
+static void *see(void *nothing) {
+    start = __builtin_frame_address(0);
+    visibility_file(file, file_length, buffer, buffer_length, rows, CONSISTENCY_MOST_COMMITS, words, CONSISTENCY_JUDGE_WORDS);
+    return nothing;
+}
+
 /* The record is one that is there, so that a call needs no other before it. */
 static void *open_one(void *nothing) {
     start = __builtin_frame_address(0);
@@ -95,7 +101,7 @@ static const struct {
     const char *name;
     void *(*make)(void *);
 } calls[] = {{"judge_file", judge}, {"plain_file", plain}, {"replay_file", replay}, {"short_file", shorten}, {"long_file", lengthen}, {"report_file", report},
-             {"judge_image", judge_one}, {"open_session", open_one}, {"push_piece", push}, {"close_session", close_one}, {"report_session", report_one}};
+             {"judge_image", judge_one}, {"visibility_file", see}, {"open_session", open_one}, {"push_piece", push}, {"close_session", close_one}, {"report_session", report_one}};
 
 static void must(int holds, const char *what) {
     if (holds) return;

@@ -1,0 +1,3 @@
+pub mod Visible
+pub mod Claim
+pub mod Examples
