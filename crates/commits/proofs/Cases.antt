@@ -36,10 +36,10 @@ use Rattle.shifts.specs.Outcomes.{maskRefusal}
 use Rattle.shifts.proofs.Refused.{good-masks, third-or}
 use Rattle.shifts.proofs.Replaced.{commit-replaces}
 use Rattle.levels.specs.Level.{Level, Failure, failsEvent, failsClauses, clausesOf}
-use Rattle.verdicts.specs.declared.Wanted.{Wanted}
-use Rattle.verdicts.specs.AtHand.{AfterCommit}
+use Rattle.trying.specs.declared.Tried.{Tried}
 use Rattle.verdicts.specs.Verdicts.{KeepsVerdicts}
 use Rattle.commits.specs.Codes.{earlyRefusal, lateRefusal, EarlyGiven, LateGiven, JudgeGiven}
+use Rattle.commits.specs.Engines.{JudgedAfter}
 
 -- five answers in a row: the first two, and then the other three
 two-then-three : {A : Type 0} (a b c d e : Option A) → firstSome (a ∷ b ∷ c ∷ d ∷ e ∷ []) ≡ orElse (firstSome (a ∷ b ∷ [])) (orElse (firstSome (c ∷ d ∷ [])) e)
@@ -146,22 +146,26 @@ module _ {g : Configuration} {c : Commit} {values versions keys fresh views seen
       (subst₂ (λ (d t : ℕ). Moved fresh (maxKeys * d) (viewPlace (storedRow t) 0) n views views′) (sym (l .client-is)) (sym (l .number-is)) k) s)
 
   -- what the levels are given, where no code is due
-  pub after-commit : (i : ℕ) {wanted : Wanted} {plain : Bool} {commits verdicts : List ℕ} → JudgeGiven g c wanted plain commits verdicts → {own m : Set} → IsSet own (λ t. (t ≡ me) × Writes c)
+  pub judged-after : (i : ℕ) {tried : Tried} {plain : Bool} {commits verdicts : List ℕ} → JudgeGiven g c tried plain commits verdicts → {own m : Set} → IsSet own (λ t. (t ≡ me) × Writes c)
       → (none ≡ lateRefusal i g c) × IsSet m (D.Holds (history (storeAfter g c)) (held (c .viewAfter)))
-      → AfterCommit (g .store) (viewBefore g c) c wanted (record { before = getD seen client 0; after = m; own = own }) versions keys commits views fresh values ranks plain (maxKeys * client) n me
-  after-commit i j new says = record {
-    made = l .made;
-    view-after = late-view i g c (l .made) (says .0);
-    number-is = l .number-is;
-    arrays = late-masks .arrays;
-    in-commits = j .in-commits;
-    wants = j .wants;
-    holds = late-holds;
-    holds-after = says .1;
-    own = new;
-    operations = l .operations;
-    masks = l .in-fresh;
-    adds-own = j .adds-own;
+      → JudgedAfter (g .store) (viewBefore g c) c tried m own versions keys commits views fresh values ranks plain (maxKeys * client) n me
+  judged-after i j new says = record {
+    clients-fit = j .clients-fit;
+    client-below = let e = l .client-is in omega arith;
+    after-commit = record {
+      made = l .made;
+      view-after = late-view i g c (l .made) (says .0);
+      number-is = l .number-is;
+      arrays = late-masks .arrays;
+      in-commits = j .in-commits;
+      wants = j .wants;
+      holds = j .holds;
+      holds-after = says .1;
+      own = new;
+      operations = l .operations;
+      masks = l .in-fresh;
+      adds-own = j .adds-own;
+    };
   }
 
 -- the failures of a commit, as the run asks for them

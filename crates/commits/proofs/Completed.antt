@@ -18,18 +18,17 @@ use Rattle.store.specs.Refusal.{refuse, oldNumber}
 use Rattle.store.specs.Sound as Store
 use Rattle.store.proofs.Legal.{newer-is}
 use Rattle.store.specs.History.{history, held}
-use Rattle.store.specs.Sound.{SoundStore}
 use Rattle.growth.specs.Made.{Made}
-use Rattle.growth.specs.Ordered.{Ordered}
 use Rattle.trace.proofs.Fits.{commit-fits}
-use Rattle.state.specs.Keeps.{IsSet, KeepsKeys, KeepsViews, KeepsCommits, KeepsLinks, KeepsMasks, KeepsOperations, Keeps}
+use Rattle.state.specs.Keeps.{IsSet, KeepsKeys, KeepsViews, KeepsMasks, KeepsOperations, Keeps}
 use Rattle.state.specs.Rows.{RowAt}
 use Rattle.views.specs.Own.{AddsOwn}
-use Rattle.verdicts.specs.declared.Wanted.{Wanted}
 use Rattle.verdicts.specs.Wants.{Wants}
 use Rattle.verdicts.specs.Verdicts.{Live}
+use Rattle.trying.specs.declared.Tried.{Tried}
 use Rattle.making.specs.Commits.{CommitGiven, MadeIn}
 use Rattle.commits.specs.Codes.{earlyRefusal, LateGiven, JudgeGiven}
+use Rattle.commits.specs.Engines.{BeforeCommit}
 use Rattle.commits.specs.Records.{Recorded, Ready}
 
 module _ {i : ℕ} {g : Configuration} {c : Commit} {clients client session : ℕ} {ranks : Set} {n me : ℕ} {versions keys views seen sessions commits links values fresh : List ℕ}
@@ -63,13 +62,22 @@ module _ {i : ℕ} {g : Configuration} {c : Commit} {clients client session : �
       → T plain → AddsOwn (g .store) (viewBefore g c) c
   plain-is plain says = says (g .store) (viewBefore g c) c values made (let x = r .room-left in omega arith) (r .keys-are) (r .keeps .in-keys) row (ready .masks) (ready .operations) .0
 
-  -- what clauses 3 to 8 want, from the arrays before the commit
-  pub wants-before : (w : Wanted)
-      → ((s : Store) (u : View) (k : Commit) (os : List ℕ) → s .keys ≡ n → SoundStore s → Ordered s → KeepsKeys s keys → KeepsCommits s commits → KeepsLinks s links
-      → KeepsOperations k ranks os → IsSet (getD seen client 0) (D.Holds (history s) (held u)) → Wants s u k w)
-      → Wants (g .store) (viewBefore g c) c w
-  wants-before w says =
-      says (g .store) (viewBefore g c) c values (r .keys-are) (r .sound .store) (r .ordered) (r .keeps .in-keys) (r .keeps .in-commits) (r .keeps .in-links) (ready .operations) holds
+  -- what is given where the wants of clauses 3 to 8 are gathered, from the arrays before the commit
+  pub before-commit : BeforeCommit (g .store) (viewBefore g c) c values versions keys commits links views (maxKeys * client) (getD seen client 0) ranks n me
+  before-commit = record {
+    keys-are = r .keys-are;
+    sound = r .sound .store;
+    ordered = r .ordered;
+    number-is = ready .number-is;
+    clients-fit = r .clients-fit;
+    in-versions = r .keeps .in-versions;
+    in-keys = r .keeps .in-keys;
+    in-commits = r .keeps .in-commits;
+    in-links = r .keeps .in-links;
+    row = row;
+    operations = ready .operations;
+    holds = holds;
+  }
 
   -- what the making of the commit is given
   pub commit-given : CommitGiven (g .store) (viewBefore g c) c versions keys views sessions values client ranks n
@@ -105,9 +113,17 @@ module _ {i : ℕ} {g : Configuration} {c : Commit} {clients client session : �
     }
 
     -- what the levels are given
-    pub judge-given : (plain : Bool) (w : Wanted) {verdicts : List ℕ} → (T plain → AddsOwn (g .store) (viewBefore g c) c) → Wants (g .store) (viewBefore g c) c w
-        → Live verdicts (w .live) → JudgeGiven g c w plain commits′ verdicts
-    judge-given plain w adds wants asked = record { wants = wants; asked = asked; adds-own = adds; in-commits = k .in-commits }
+    pub judge-given : (plain : Bool) (tried : Tried) {verdicts : List ℕ} → (T plain → AddsOwn (g .store) (viewBefore g c) c)
+        → IsSet (tried .seen) (D.Holds (history (g .store)) (held (viewBefore g c))) × Wants (g .store) (viewBefore g c) c (tried .wanted)
+        → Live verdicts (tried .wanted .live) → JudgeGiven g c tried plain commits′ verdicts
+    judge-given plain tried adds found asked = record {
+      clients-fit = r .clients-fit;
+      holds = found .0;
+      wants = found .1;
+      asked = asked;
+      adds-own = adds;
+      in-commits = k .in-commits;
+    }
 
     -- the arrays after it
     pub kept-after : {views′ seen′ : List ℕ} → KeepsViews (step g (commit c)) views′ seen′ → Keeps (step g (commit c)) versions′ keys′ views′ seen′ sessions′ commits′ links′

@@ -14,6 +14,7 @@ use Rattle.store.specs.Update.{step, viewBefore, storeAfter}
 use Rattle.store.specs.History.{history, held}
 use Rattle.store.specs.Refusal.{Refusal, refuse, refuseKey, refuseRead, oldNumber, wrongRead, stray}
 use Rattle.store.specs.Sound.{Sound}
+use Rattle.store.specs.Image.{ClientsFit}
 use Rattle.growth.specs.Made.{Made}
 use Rattle.growth.specs.Ordered.{Ordered}
 use Rattle.state.specs.Keeps.{IsSet, KeepsSessions, KeepsVersions, KeepsKeys, KeepsViews, KeepsCommits, KeepsMasks, KeepsOperations}
@@ -23,9 +24,9 @@ use Rattle.shifts.specs.declared.Sight.{Sight}
 use Rattle.shifts.specs.declared.Sight.the-variants.{Holds, Bad}
 use Rattle.levels.specs.Level.{Level, Failure, failsEvent}
 use Rattle.views.specs.Own.{AddsOwn}
-use Rattle.verdicts.specs.declared.Wanted.{Wanted}
 use Rattle.verdicts.specs.Wants.{Wants}
 use Rattle.verdicts.specs.Verdicts.{Live, KeepsVerdicts}
+use Rattle.trying.specs.declared.Tried.{Tried}
 use Rattle.shifts.specs.declared.Outcome.{Outcome}
 use Rattle.shifts.specs.declared.Outcome.the-variants.{Taken}
 use Rattle.shifts.specs.Outcomes.{outcomeOf, maskRefusal}
@@ -66,9 +67,11 @@ AfterSays i g c (Bad r) = some (refusalOf r) ≡ lateRefusal i g c
 AfterSays i g c (Holds m) = (none ≡ lateRefusal i g c) × IsSet m (D.Holds (history (storeAfter g c)) (held (c .viewAfter)))
 
 -- what the levels are given besides
-pub record JudgeGiven (g : Configuration) (c : Commit) (wanted : Wanted) (plain : Bool) (commits verdicts : List ℕ) : Type 0 where
-  pub wants : Wants (g .store) (viewBefore g c) c wanted
-  pub asked : Live verdicts (wanted .live)
+pub record JudgeGiven (g : Configuration) (c : Commit) (tried : Tried) (plain : Bool) (commits verdicts : List ℕ) : Type 0 where
+  pub clients-fit : ClientsFit (g .store)
+  pub holds : IsSet (tried .seen) (D.Holds (history (g .store)) (held (viewBefore g c)))
+  pub wants : Wants (g .store) (viewBefore g c) c (tried .wanted)
+  pub asked : Live verdicts (tried .wanted .live)
   pub adds-own : T plain → AddsOwn (g .store) (viewBefore g c) c
   pub in-commits : KeepsCommits (storeAfter g c) commits
 

@@ -11,6 +11,7 @@ use Rattle.store.specs.Store.{Configuration, nextNumber, Commit, Event}
 use Rattle.store.specs.Update.{step, viewBefore}
 use Rattle.store.specs.Refusal.{refusesEvent}
 use Rattle.store.specs.Sound.{Sound}
+use Rattle.store.specs.Image.{ClientsFit}
 use Rattle.growth.specs.Ordered.{Ordered}
 use Rattle.trace.specs.Entry.{commitMeant}
 use Rattle.trace.specs.Format.{operationsAt}
@@ -40,6 +41,7 @@ pub record Recorded (g : Configuration) (c : Commit) (clients n : ℕ) (versions
   pub ordered : Ordered (g .store)
   pub keys-are : g .store .keys ≡ n
   pub room-left : nextNumber (g .store) ≤ maxCommits
+  pub clients-fit : ClientsFit (g .store)
   pub few-clients : clients ≤ maxClients
   pub fits : FitsCommit n clients c
   pub keeps : Keeps g versions keys views seen sessions commits links

@@ -1,12 +1,13 @@
 // The view after a commit: "is a view of the new store, and differs from u only at keys with an operation" (01, Store and views, 4).
+use crate::Engine;
+use crate::engines::judge_by;
 use shifts::Outcome;
 use shifts::Sight;
 use shifts::masks::sight;
 use state::CommitNumber;
 use state::FoundKey;
 use state::Refusal;
-use verdicts::Held;
-use verdicts::Wanted;
+use trying::Tried;
 ghost use Prim.Native.Nat.{ℕ, _≤_, _<_};
 ghost use mathlib.Core.Path.{_≡_};
 ghost use mathlib.Core.List.{List};
@@ -75,10 +76,11 @@ fn sight_after(
 
 // A commit that is made, of the record of this number: codes 10, 11 and 14; where none is due, the levels judge it, the client's view is stored as the one
 // that the commit was judged from, and the masks become the client's view.
-// The other arrays keep the store after the commit, and `wanted` is what clauses 3 to 8 want of the view before.
+// The other arrays keep the store after the commit, and `tried` has the commits of which the view before holds a version, and those that clauses 3 to 8 want of it.
 pub fn late(
     number: usize,
-    wanted: Wanted,
+    engine: Engine,
+    tried: Tried,
     versions: &[u64],
     keys: &[u64],
     commits: &[u64],
@@ -96,7 +98,7 @@ pub fn late(
     ensures { λ r. ⌜
         ((g : Configuration) (c : Commit) (values : List ℕ) (fs : Level → Option Failure)
         → LateGiven g c values (now (versions .entry)) (now (keys .entry)) (now (fresh .entry)) (now (views .entry)) (now (seen .entry)) client ranks n (me .0)
-        → JudgeGiven g c wanted plain (now (commits .entry)) (now (verdicts .entry)) → KeepsVerdicts fs (now (verdicts .entry))
+        → JudgeGiven g c tried plain (now (commits .entry)) (now (verdicts .entry)) → KeepsVerdicts fs (now (verdicts .entry))
         → LateSays number g c fs (now (views .exit)) (now (seen .exit)) (now (verdicts .exit)) r)
         ⌝ }
 {
@@ -116,23 +118,20 @@ pub fn late(
     ) {
         Sight::Bad(r) => Outcome::Refused(r),
         Sight::Holds(after) => {
-            let held = Held {
-                before: seen[client],
-                after,
-                own,
-            };
             let base = state::PER_CLIENT * client;
-            verdicts::report::judge(
+            judge_by(
+                engine,
                 verdicts,
                 number,
-                wanted,
+                tried,
                 versions,
                 keys,
                 commits,
                 views,
                 base,
                 fresh,
-                held,
+                after,
+                own,
                 ranks,
                 plain,
                 n,

@@ -1,5 +1,7 @@
 // One commit of the trace, whole.
+use crate::Engine;
 use crate::early::early;
+use crate::engines::wanted_by;
 use crate::late::late;
 use shifts::Outcome;
 use state::CommitNumber;
@@ -101,6 +103,7 @@ fn complete(
     fresh: &[u64],
     n: usize,
     me: CommitNumber,
+    engine: Engine,
 ) -> Outcome
     requires { ⌜ (1 ≤ n) × (n ≤ maxKeys) × (client < maxClients) × (me .0 < numbers) × ValuesRoom (now values) × FreshRoom (now fresh) × VerdictsRoom (now verdicts) ⌝ }
     requires { ⌜ Room (now versions) (now keys) (now views) (now seen) (now sessions) (now commits) (now links) ⌝ }
@@ -112,7 +115,20 @@ fn complete(
         ⌝ }
 {
     let plain = views::masks::adds_own(fresh, views, state::PER_CLIENT * client, keys, ranks, n);
-    let wanted = verdicts::clauses::wanted(keys, commits, links, verdicts, seen[client], ranks, n);
+    let tried = wanted_by(
+        engine,
+        versions,
+        keys,
+        commits,
+        links,
+        verdicts,
+        views,
+        state::PER_CLIENT * client,
+        seen[client],
+        ranks,
+        n,
+        me,
+    );
     making::make(
         versions,
         keys,
@@ -129,7 +145,8 @@ fn complete(
     );
     late(
         number,
-        wanted,
+        engine,
+        tried,
         versions,
         keys,
         commits,
@@ -163,6 +180,7 @@ pub fn commit_to(
     fresh: &mut [u64],
     n: usize,
     me: CommitNumber,
+    engine: Engine,
 ) -> Outcome
     requires { ⌜ (1 ≤ n) × (n ≤ maxKeys) × (me .0 < numbers) × (at .client < maxClients) × ListingFits (now file) n (at .listing) × OperationsFit (now file) n (at .operations) (at .count) ⌝ }
     requires { ⌜ ValuesRoom (now values) × FreshRoom (now fresh) × VerdictsRoom (now verdicts) ⌝ }
@@ -208,5 +226,6 @@ pub fn commit_to(
         fresh,
         n,
         me,
+        engine,
     )
 }

@@ -1,7 +1,7 @@
 // The call that judges a trace file: it is lent the file in one slice and an image buffer in another, and gives one answer.
 mod ending; // ending.rt: the answer for a trace that is taken
 
-use run::Engine;
+use commits::Engine;
 use state::Refusal;
 use store::Store;
 use taking::Taking;

@@ -1,7 +1,7 @@
 // The plain second engine (02, E10), for the acceptance trial: the answer of `judge` for a file, its verdicts found by trying every commit as the next link. It
 // writes no image. That both engines answer the same is proved of the two, and said of the two calls on one file.
+use commits::Engine;
 use judging::Answer;
-use run::Engine;
 use store::Store;
 use taking::Taking;
 ghost use mathlib.Core.Path.{_≡_};

@@ -10,7 +10,6 @@ use Rattle.store.specs.Limits.{maxClients, maxCommits}
 use Rattle.store.specs.Store.{Configuration, opening, nextNumber, Event, shift, commit}
 use Rattle.store.specs.Update.{step}
 use Rattle.store.specs.Refusal.{refusesEvent}
-use Rattle.store.specs.Image.{ClientsFit}
 use Rattle.trace.specs.Entry.{viewMeant, event}
 use Rattle.trace.specs.Format.{Header, commitsWith}
 use Rattle.trace.specs.Meaning.{listingOf, entryOf, readingOf, PlacesFit, RecordSays}
@@ -113,7 +112,7 @@ module _ (file : List ℕ) (n : ℕ) (at : CommitAt) (made : ℕ) {r : Record} (
   commit-event g = ap (λ (x : Record). event g (entryOf file n x)) (sym is)
 
   module _ (number : ℕ) {versions keys views seen sessions commits links verdicts values : List ℕ} {versions′ keys′ views′ seen′ sessions′ commits′ links′ verdicts′ : List ℕ} (values′ : List ℕ) (o : Outcome)
-      (done : (g : Configuration) (clients : ℕ) (fs : Level → Option Failure) → ClientsFit (g .store)
+      (done : (g : Configuration) (clients : ℕ) (fs : Level → Option Failure)
       → Recorded g (commitIn g file at n) clients n versions keys views seen sessions commits links → nextNumber (g .store) ≡ made + 1 → ValuesFit values → KeepsVerdicts fs verdicts
       → EventDone number g fs (commit (commitIn g file at n)) versions′ keys′ views′ seen′ sessions′ commits′ links′ verdicts′ values′ o)
       (g : Configuration) (fs : Level → Option Failure) (s : Standing g fs n made versions keys views seen sessions commits links verdicts values) (room : made < maxCommits) where
@@ -124,6 +123,7 @@ module _ (file : List ℕ) (n : ℕ) (at : CommitAt) (made : ℕ) {r : Record} (
       ordered = s .ordered;
       keys-are = s .keys-are;
       room-left = omega (arith, s .counted);
+      clients-fit = s .clients-fit;
       few-clients = few;
       fits = f;
       keeps = s .keeps;
@@ -133,4 +133,4 @@ module _ (file : List ℕ) (n : ℕ) (at : CommitAt) (made : ℕ) {r : Record} (
         → EventDone number g fs (event g (entryOf file n r)) versions′ keys′ views′ seen′ sessions′ commits′ links′ verdicts′ values′ o
     commit-one clients f =
         subst (λ (e : Event). EventDone number g fs e versions′ keys′ views′ seen′ sessions′ commits′ links′ verdicts′ values′ o) (commit-event g)
-        (done g clients fs (s .clients-fit) (recorded clients (f .few-clients) (subst (FitsEvent n clients) (sym (commit-event g)) (f .fits g (sound-fits (s .sound) (s .keys-are))))) (omega (arith, s .counted)) (s .small) (s .failures))
+        (done g clients fs (recorded clients (f .few-clients) (subst (FitsEvent n clients) (sym (commit-event g)) (f .fits g (sound-fits (s .sound) (s .keys-are))))) (omega (arith, s .counted)) (s .small) (s .failures))

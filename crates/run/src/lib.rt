@@ -2,6 +2,7 @@
 // 14), what it changes, and what the ten levels say of it.
 mod one; // one.rt: one record
 
+use commits::Engine;
 use one::one_record;
 use shifts::Outcome;
 use state::Refusal;
@@ -19,12 +20,6 @@ ghost use Rattle.state.specs.Room.{Room, ValuesRoom, FreshRoom};
 ghost use Rattle.verdicts.specs.Verdicts.{VerdictsRoom};
 ghost use Rattle.trace.specs.Meaning.{AllRecordsSay};
 ghost use Rattle.run.specs.Ran.{headerWith, stoppedBy, formOf, Starts, RanSays};
-
-// How a commit is judged: by the sets that are kept along the run, or by trying every commit as the next link (02, E10). The answers are the same.
-pub enum Engine {
-    Fast,
-    Plain,
-}
 
 // What the run of a trace comes to: all records are done, with so many commits; or one means what is refused, and all are in form; or one is not in form.
 pub enum Ran {

@@ -1,12 +1,11 @@
 // One record of a run: a view shift or a commit, on the arrays that keep the store.
-use crate::Engine;
+use commits::Engine;
 use commits::record::CommitAt;
 use commits::record::commit_to;
 use shifts::Outcome;
 use shifts::shift::shift_to;
 use state::CommitNumber;
 use trace::records::Record;
-use trial::commit_plainly;
 ghost use Prim.Native.Nat.{ℕ, _≤_};
 ghost use mathlib.Core.Option.{Option};
 ghost use Rattle.store.specs.Limits.{maxKeys};
@@ -77,42 +76,24 @@ pub fn one_record(
                 listing,
             };
             let next = made + 1;
-            match engine {
-                Engine::Fast => commit_to(
-                    file,
-                    at,
-                    number,
-                    versions,
-                    keys,
-                    views,
-                    seen,
-                    sessions,
-                    commits,
-                    links,
-                    verdicts,
-                    values,
-                    fresh,
-                    n,
-                    CommitNumber(next),
-                ),
-                Engine::Plain => commit_plainly(
-                    file,
-                    at,
-                    number,
-                    versions,
-                    keys,
-                    views,
-                    seen,
-                    sessions,
-                    commits,
-                    links,
-                    verdicts,
-                    values,
-                    fresh,
-                    n,
-                    CommitNumber(next),
-                ),
-            }
+            commit_to(
+                file,
+                at,
+                number,
+                versions,
+                keys,
+                views,
+                seen,
+                sessions,
+                commits,
+                links,
+                verdicts,
+                values,
+                fresh,
+                n,
+                CommitNumber(next),
+                engine,
+            )
         }
     }
 }

@@ -30,7 +30,7 @@ use Rattle.state.specs.declared.Refusal.{Refusal}
 use Rattle.verdicts.specs.Verdicts.{verdictsLength, KeepsVerdicts}
 use Rattle.verdicts.specs.Told.{tellAll, verdictsOf}
 use Rattle.verdicts.specs.declared.told.Verdicts.{Verdicts}
-use Rattle.trial.proofs.Judged.{no-failure, no-value}
+use Rattle.taking.proofs.Fresh.{no-failure, no-value}
 use Rattle.run.specs.Ran.{formOf, Starts, Ended, RanSays}
 use Rattle.run.specs.declared.Ran.{Ran}
 use Rattle.run.specs.declared.Ran.the-variants as Runs

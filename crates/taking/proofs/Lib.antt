@@ -2,3 +2,4 @@ pub mod Accepted
 pub mod InForm
 pub mod Cases
 pub mod ToCome
+pub mod Fresh

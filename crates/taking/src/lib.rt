@@ -1,7 +1,7 @@
 // A trace file is taken or refused, by codes 1 to 14: its header, and then its records, the form of all before the meaning of any. Where it is taken, the arrays that were lent
 // keep its last store, and the answer has its verdicts. Whatever a call makes of a taken trace comes after this and is its own: the call makes the
 // arrays of the opening store, lends them here, and ends with what it writes or answers.
-use run::Engine;
+use commits::Engine;
 use run::Ran;
 use state::Refusal;
 use store::Store;

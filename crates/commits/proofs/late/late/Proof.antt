@@ -9,7 +9,7 @@ use Rattle.growth.specs.Made.{Writes}
 use Rattle.state.specs.Keeps.{IsSet}
 use Rattle.shifts.proofs.Refused.{not-taken}
 use Rattle.commits.specs.Codes.{LateGiven, AfterSays, JudgeGiven}
-use Rattle.commits.proofs.Cases.{late-kept, after-commit, noted}
+use Rattle.commits.proofs.Cases.{late-kept, judged-after, noted}
 use borrow.Author.Needs.{needs}
 use Rattle.commits.proofs.late.late.Statement.{statement}
 use Rattle.commits.proofs.late.late.Tie as tie
@@ -27,7 +27,7 @@ Given c g e values =
     LateGiven g e values (a .versions .now) (a .keys .now) (a .fresh .now) (a .views .now) (a .seen .now) (a .client) (a .ranks) (a .n) (a .me .0)
 
 abbrev Judged : tie.Start → Configuration → Commit → Type 0
-Judged c g e = let a = c .args in JudgeGiven g e (a .wanted) (a .plain) (a .commits .now) (a .verdicts .now)
+Judged c g e = let a = c .args in JudgeGiven g e (a .tried) (a .plain) (a .commits .now) (a .verdicts .now)
 
 -- the commit's own number
 own-is : (c : tie.After-own-number) (g : Configuration) (e : Commit) (values : List ℕ) → Given (c .before .before .before .before .before .before .before .before) g e values → IsSet (c .own-number .result) (λ t. (t ≡ c .before .before .before .before .before .before .before .before .args .me .0) × Writes e)
@@ -52,26 +52,20 @@ enum-known-r c = search needs
 enum-known-after : tie.Need-enum-known-after
 enum-known-after c = search needs
 
-mul-t26 : tie.Need-mul-t26
-mul-t26 c = search needs
-
-slice-read-t28 : tie.Need-slice-read-t28
-slice-read-t28 c = search needs
-
 mul-base : tie.Need-mul-base
 mul-base c = search needs
 
-judge-requires : tie.Need-judge-requires
-judge-requires c κs = search needs
+judge-by-requires : tie.Need-judge-by-requires
+judge-by-requires c κs = search needs
 
 store-and-keep-requires : tie.Need-store-and-keep-requires
 store-and-keep-requires c κs = search needs
 
 mul-seen : tie.Need-mul-seen
-mul-seen c = let l = c .before .before .before .before .before .before .before .before .before .before .before .before .before .before .before .before .before .before .before .before .before .before .before .before .pre .2 in search needs
+mul-seen c = let l = c .before .before .before .before .before .before .before .before .before .before .before .before .before .before .before .before .before .before .before .before .before .before .before .pre .2 in search needs
 
 slice-write-seen : tie.Need-slice-write-seen
-slice-write-seen c = let l = c .before .before .before .before .before .before .before .before .before .before .before .before .before .before .before .before .before .before .before .before .before .before .before .before .pre .2 in let room = c .before .before .before .before .before .before .before .before .before .before .before .before .before .before .before .before .before .before .before .before .before .before .before .before .pre .9 in search needs
+slice-write-seen c = let l = c .before .before .before .before .before .before .before .before .before .before .before .before .before .before .before .before .before .before .before .before .before .before .before .pre .2 in let room = c .before .before .before .before .before .before .before .before .before .before .before .before .before .before .before .before .before .before .before .before .before .before .before .pre .9 in search needs
 
 same-length : tie.Need-same-length
 same-length c = search needs
@@ -93,13 +87,13 @@ same-length-5 c = search needs
 
 returns-2 : tie.Need-returns-2
 returns-2 c =
-    let p = c .before .before .before .before .before .before .before .before .before .before .before .before .before .before .before .before .before .before .before .before .before .before .before .before .pre in
+    let p = c .before .before .before .before .before .before .before .before .before .before .before .before .before .before .before .before .before .before .before .before .before .before .before .pre in
     λ g e values fs h j k.
-    let x = subst (AfterSays _ g e) (c .before .before .before .before .before .before .before .before .before .before .before .after .given .1) (said (c .before .before .before .before .before .before .before .before .before .before .before .before .before) g e values h j) in (
+    let x = subst (AfterSays _ g e) (c .before .before .before .before .before .before .before .before .before .before .after .given .1) (said (c .before .before .before .before .before .before .before .before .before .before .before .before) g e values h j) in (
       x .0,
       λ taken. (
         late-kept h (p .2) (p .1) _ (c .before .before .store-and-keep .ensures) (x .1),
-        noted g e _ fs (c .before .before .before .before .before .before .judge .ensures (g .store) (viewBefore g e) e values fs (after-commit h (p .2) _ j (own-is (c .before .before .before .before .before .before .before .before .before .before .before .before .before .before .before .before) g e values h) x) (j .asked) k),
+        noted g e _ fs (c .before .before .before .before .before .before .judge-by .ensures (g .store) (viewBefore g e) e values fs (judged-after h (p .2) _ j (own-is (c .before .before .before .before .before .before .before .before .before .before .before .before .before .before .before) g e values h) x) (j .asked) k),
       ),
     )
 
@@ -111,10 +105,8 @@ late-spec =
     sight-after-requires
     enum-known-r
     enum-known-after
-    mul-t26
-    slice-read-t28
     mul-base
-    judge-requires
+    judge-by-requires
     store-and-keep-requires
     mul-seen
     slice-write-seen

@@ -1,7 +1,7 @@
 -- `commits::record::complete` meets its contract. Assumes nothing.
 use native.Mathlib.Omega.{arith}
 use Rattle.store.specs.Update.{viewBefore}
-use Rattle.commits.proofs.Completed.{plain-is, wants-before, commit-given, late-given, judge-given, kept-after}
+use Rattle.commits.proofs.Completed.{plain-is, before-commit, commit-given, late-given, judge-given, kept-after}
 use Rattle.commits.proofs.Turns.{answered-late}
 use borrow.Author.Needs.{needs}
 use Rattle.commits.proofs.record.complete.Statement.{statement}
@@ -11,7 +11,7 @@ use Rattle.commits.proofs.record.complete.Tie as tie
 
 -- where the function begins, from where the commit is made
 abbrev entry : tie.After-make → tie.Start
-entry c = c .before .before .before .before .before .before .before .before .before .before .before .before .before .before .before .before .before .before .before .before .before .before .before .before .before .before
+entry c = c .before .before .before .before .before .before .before .before .before .before .before .before .before .before .before .before .before .before .before .before .before .before .before .before .before .before .before .before
 
 -- where it is, from where its view after was tested
 abbrev made : tie.After-late → tie.After-make
@@ -25,18 +25,21 @@ mul-adds-own c = search needs
 adds-own-requires : tie.Need-adds-own-requires
 adds-own-requires c κs = search needs
 
-mul-wanted : tie.Need-mul-wanted
-mul-wanted c = search needs
+mul-wanted-by : tie.Need-mul-wanted-by
+mul-wanted-by c = search needs
 
-slice-read-wanted : tie.Need-slice-read-wanted
-slice-read-wanted c = search needs
+mul-wanted-by-2 : tie.Need-mul-wanted-by-2
+mul-wanted-by-2 c = search needs
 
-wanted-requires : tie.Need-wanted-requires
-wanted-requires c κs = search needs
+slice-read-wanted-by : tie.Need-slice-read-wanted-by
+slice-read-wanted-by c = search needs
+
+wanted-by-requires : tie.Need-wanted-by-requires
+wanted-by-requires c κs = search needs
 
 make-requires : tie.Need-make-requires
 make-requires c κs =
-    let p = c .before .before .before .before .before .before .before .before .before .before .before .before .before .before .before .before .before .before .before .before .before .before .before .before .before .pre in
+    let p = c .before .before .before .before .before .before .before .before .before .before .before .before .before .before .before .before .before .before .before .before .before .before .before .before .before .before .before .pre in
     let room = p .1 in
     ((p .0 .1, p .0 .2, p .0 .3, room .of-versions, room .of-keys, room .of-views), (room .of-sessions, room .of-commits, room .of-links, p .0 .4))
 
@@ -76,10 +79,10 @@ returns c =
     λ g e clients fs ready verdicts.
     let keeps = ready .recorded .keeps in
     let kept = m .make .ensures (g .store) (viewBefore g e) e (commit-given ready) (ready .number-is) (ready .session-is) (keeps .in-commits) (keeps .in-links) in
-    let adds = plain-is ready (c .before .before .before .before .before .before .before .before .before .before .before .before .before .before .before .before .before .before .before .before .before .before .before .before .before .before .before .before .before .before .before .before .before .before .before .before .adds-own .result) (c .before .before .before .before .before .before .before .before .before .before .before .before .before .before .before .before .before .before .before .before .before .before .before .before .before .before .before .before .before .before .before .before .before .before .before .before .adds-own .ensures) in
-    let wanted = c .before .before .before .before .before .before .before .before .before .before .before .before .before .before .before .before .before .before .before .before .before .before .before .before .before .before .before .before .before .before .wanted in
-    let wants = wants-before ready (wanted .result) (wanted .ensures .1) in
-    let says = c .before .before .before .before .before .before .late .ensures g e (a .values .now) fs (late-given ready kept) (judge-given ready kept _ _ adds wants (wanted .ensures .0)) verdicts in
+    let own = c .before .before .before .before .before .before .before .before .before .before .before .before .before .before .before .before .before .before .before .before .before .before .before .before .before .before .before .before .before .before .before .before .before .before .before .before .before .before .adds-own in
+    let wanted = c .before .before .before .before .before .before .before .before .before .before .before .before .before .before .before .before .before .before .before .before .before .before .before .before .before .before .before .before .before .before .wanted-by in
+    let found = wanted .ensures .0 (g .store) (viewBefore g e) e (a .values .now) (before-commit ready) in
+    let says = c .before .before .before .before .before .before .late .ensures g e (a .values .now) fs (late-given ready kept) (judge-given ready kept _ _ (plain-is ready (own .result) (own .ensures)) found (wanted .ensures .1)) verdicts in
     record {
       answer = answered-late _ g e (ready .not-refused) _ (says .0);
       small = ready .operations .value-fits;
@@ -92,9 +95,10 @@ complete-spec =
     (tie.spec
     mul-adds-own
     adds-own-requires
-    mul-wanted
-    slice-read-wanted
-    wanted-requires
+    mul-wanted-by
+    mul-wanted-by-2
+    slice-read-wanted-by
+    wanted-by-requires
     make-requires
     late-requires
     same-length

@@ -1,4 +1,4 @@
--- `run::one::one_record` meets its contract: each arm by what its call ensures, whichever engine judges a commit. Assumes nothing.
+-- `run::one::one_record` meets its contract: each arm by what its call ensures. Assumes nothing.
 use mathlib.Core.Path.{subst}
 use native.Mathlib.Omega.{arith}
 use Rattle.run.specs.OneRecord.{Readable}
@@ -34,22 +34,9 @@ add-next c =
     let (below, masks, operations, room) = subst (Readable _ _ _) (commit .r2 .given .1) (before-commit commit .pre .0 .2) in
     record { fits = omega arith }
 
-enum-told : tie.Need-enum-told
-enum-told c = search needs
-
 commit-to-requires : tie.Need-commit-to-requires
 commit-to-requires c κs =
-    let commit = c .before .before .before .before .before .before .before .before .before .before .before .before .before in
-    let p = before-commit commit .pre in
-    let (below, masks, operations, room) = subst (Readable _ _ _) (commit .r2 .given .1) (before-commit commit .pre .0 .2) in
-    ((p .0 .0, p .0 .1, omega arith, below, masks, operations), p .1)
-
-enum-told-2 : tie.Need-enum-told-2
-enum-told-2 c = search needs
-
-commit-plainly-requires : tie.Need-commit-plainly-requires
-commit-plainly-requires c κs =
-    let commit = c .before .before .before .before .before .before .before .before .before .before .before .before .before in
+    let commit = c .before .before .before .before .before .before .before .before .before .before .before in
     let p = before-commit commit .pre in
     let (below, masks, operations, room) = subst (Readable _ _ _) (commit .r2 .given .1) (before-commit commit .pre .0 .2) in
     ((p .0 .0, p .0 .1, omega arith, below, masks, operations), p .1)
@@ -108,48 +95,10 @@ same-length-15 c = search needs
 returns-2 : tie.Need-returns-2
 returns-2 c =
     let called = c .before .before .before .before .before .before .before .before .before .before .before .before .before .before .before .before .before .before .before .before in
-    let commit = called .before .before .before .before .before .before .before .before .before .before .before .before .before .before in
+    let commit = called .before .before .before .before .before .before .before .before .before .before .before .before in
     let (below, masks, operations, room) = subst (Readable _ _ _) (commit .r2 .given .1) (before-commit commit .pre .0 .2) in
     λ g fs clients f s.
-    commit-one _ _ (record { client = _; count = _; session = _; operations = _; listing = _ }) _ (commit .r2 .given .1) _ _ _ (λ g clients fs fit. called .commit-to .ensures g clients fs) g fs s room clients f
-
-same-length-16 : tie.Need-same-length-16
-same-length-16 c = search needs
-
-same-length-17 : tie.Need-same-length-17
-same-length-17 c = search needs
-
-same-length-18 : tie.Need-same-length-18
-same-length-18 c = search needs
-
-same-length-19 : tie.Need-same-length-19
-same-length-19 c = search needs
-
-same-length-20 : tie.Need-same-length-20
-same-length-20 c = search needs
-
-same-length-21 : tie.Need-same-length-21
-same-length-21 c = search needs
-
-same-length-22 : tie.Need-same-length-22
-same-length-22 c = search needs
-
-same-length-23 : tie.Need-same-length-23
-same-length-23 c = search needs
-
-same-length-24 : tie.Need-same-length-24
-same-length-24 c = search needs
-
-same-length-25 : tie.Need-same-length-25
-same-length-25 c = search needs
-
-returns-3 : tie.Need-returns-3
-returns-3 c =
-    let called = c .before .before .before .before .before .before .before .before .before .before .before .before .before .before .before .before .before .before .before .before in
-    let commit = called .before .before .before .before .before .before .before .before .before .before .before .before .before .before in
-    let (below, masks, operations, room) = subst (Readable _ _ _) (commit .r2 .given .1) (before-commit commit .pre .0 .2) in
-    λ g fs clients f s.
-    commit-one _ _ (record { client = _; count = _; session = _; operations = _; listing = _ }) _ (commit .r2 .given .1) _ _ _ (called .commit-plainly .ensures) g fs s room clients f
+    commit-one _ _ (record { client = _; count = _; session = _; operations = _; listing = _ }) _ (commit .r2 .given .1) _ _ _ (called .commit-to .ensures) g fs s room clients f
 
 pub one-record-spec : {M : Type 1} → statement M
 one-record-spec =
@@ -159,10 +108,7 @@ one-record-spec =
     shift-to-requires
     enum-known-r-2
     add-next
-    enum-told
     commit-to-requires
-    enum-told-2
-    commit-plainly-requires
     same-length
     same-length-2
     same-length-3
@@ -179,15 +125,4 @@ one-record-spec =
     same-length-13
     same-length-14
     same-length-15
-    returns-2
-    same-length-16
-    same-length-17
-    same-length-18
-    same-length-19
-    same-length-20
-    same-length-21
-    same-length-22
-    same-length-23
-    same-length-24
-    same-length-25
-    returns-3)
+    returns-2)
