@@ -13,14 +13,11 @@ use Rattle.search.proofs.Choose.{choose-ind}
 use Rattle.search.proofs.Tests.{T?, T-true, some-none}
 use Rattle.sets.specs.Set.{Set, has}
 use Rattle.store.specs.Limits.{maxKeys, maxClients}
-use Rattle.store.specs.Store.{Value, Store, Configuration, Access, read, write, Operation, Commit}
+use Rattle.store.specs.Store.{Value, Configuration, Access, read, write, Operation, Commit}
 use Rattle.store.specs.Update.{sameAccess, valueOf, viewBefore}
-use Rattle.store.specs.Sound as Store
 use Rattle.trace.specs.Encode.{accessNumber}
-use Rattle.trace.specs.WellFormed.{rank, Rise, FitsCommit}
-use Rattle.trace.proofs.Fits.{commit-fits}
+use Rattle.trace.specs.WellFormed.{rank, Rise}
 use Rattle.state.specs.Keeps.{RowIs, KeepsOperations}
-use Rattle.commits.specs.Codes.{EarlyGiven}
 use Rattle.commits.specs.Records.{ValuesFit, Recorded}
 
 -- ---- values
@@ -72,23 +69,3 @@ pub row-kept : (g : Configuration) (c : Commit) (clients n : ℕ) (versions keys
 row-kept g c clients n versions keys views seen sessions commits links r k l =
     let b : c .client < maxClients = let x = r .fits .client-below in let y = r .few-clients in omega arith in
     r .keeps .in-views .rows (c .client) b k (let e = r .keys-are in omega arith)
-
--- what is given where the commit is first tested
-pub early-given : (g : Configuration) (c : Commit) (clients n : ℕ) (versions keys views seen sessions commits links values : List ℕ) (ranks : Set)
-    → Recorded g c clients n versions keys views seen sessions commits links → KeepsOperations c ranks values
-    → EarlyGiven (g .store) (viewBefore g c) c sessions versions views values (c .client) (c .session) ranks n
-early-given g c clients n versions keys views seen sessions commits links values ranks r o = record {
-  given = record {
-    keys-are = r .keys-are;
-    sound = r .sound .store;
-    view = r .sound .views (c .client);
-    fits = subst (λ (k : ℕ). Store.WithinKeys k c) (sym (r .keys-are)) (commit-fits n clients c (r .fits));
-    room-left = r .room-left;
-    in-versions = r .keeps .in-versions;
-    row = row-kept g c clients n versions keys views seen sessions commits links r;
-    operations = o;
-  };
-  in-sessions = r .keeps .in-sessions;
-  client-is = refl;
-  session-is = refl;
-}

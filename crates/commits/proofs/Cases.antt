@@ -1,24 +1,23 @@
 -- The codes of a commit, case by case. Assumes nothing.
 use Prim.Native.Nat.{ℕ, _+_, _*_, _≤_, _<_}
-use mathlib.Core.Path.{_≡_, refl, sym, ap, _∙_, subst, subst₂}
+use mathlib.Core.Path.{_≡_, sym, ap, _∙_, subst, subst₂}
 use mathlib.Core.Bool.{Bool, _&&_}
 use mathlib.Core.Logic.{_↔_}
 use mathlib.Core.Option.{Option, some, none}
-use mathlib.Core.List.{List, [], _∷_}
+use mathlib.Core.List.{List}
 use native.Mathlib.Omega.{arith}
 use lib.Dec.{T, eqb, ltb, leb}
 use lib.ListN.{getD, set}
 use Rattle.search.specs.Choose.{mapSome, when, orElse, firstSome}
 use Rattle.search.specs.Search.{any}
-use Rattle.search.proofs.Tests.{both, and-is, eq-is, lt-is, le-is, T-true, T-false, orElse-none}
+use Rattle.search.proofs.Tests.{both, and-is, eq-is, lt-is, le-is, orElse-none}
 use Rattle.search.proofs.Search.{any-is}
 use Rattle.dependencies.specs.History as D
 use Rattle.sets.specs.Set.{Set}
 use Rattle.store.specs.Limits.{maxKeys, maxClients}
-use Rattle.store.specs.Store.{View, Store, Configuration, nextNumber, Commit, commit}
+use Rattle.store.specs.Store.{Store, Configuration, nextNumber, Commit, commit}
 use Rattle.store.specs.Update.{step, viewBefore, storeAfter}
-use Rattle.store.specs.Refusal.{Refusal, refuse, refuseKey, Sighting, refuseRead, notAbove, oldNumber, wrongRead, stray, refusesEvent}
-use Rattle.store.specs.Sound.{Sound}
+use Rattle.store.specs.Refusal.{Refusal, refuse, refuseKey, refuseRead, notAbove, oldNumber, wrongRead, stray, refusesEvent}
 use Rattle.store.specs.History.{InLog, history, held}
 use Rattle.store.specs.View.{IsView, FitsView}
 use Rattle.store.proofs.Sound.{view-of-grown-store}
@@ -38,20 +37,14 @@ use Rattle.shifts.proofs.Replaced.{commit-replaces}
 use Rattle.levels.specs.Level.{Level, Failure, failsEvent, failsClauses, clausesOf}
 use Rattle.trying.specs.declared.Tried.{Tried}
 use Rattle.verdicts.specs.Verdicts.{KeepsVerdicts}
-use Rattle.commits.specs.Codes.{earlyRefusal, lateRefusal, EarlyGiven, LateGiven, JudgeGiven}
+use Rattle.commits.specs.Codes.{lateRefusal, LateGiven, JudgeGiven}
 use Rattle.commits.specs.Engines.{JudgedAfter}
 
--- five answers in a row: the first two, and then the other three
-two-then-three : {A : Type 0} (a b c d e : Option A) → firstSome (a ∷ b ∷ c ∷ d ∷ e ∷ []) ≡ orElse (firstSome (a ∷ b ∷ [])) (orElse (firstSome (c ∷ d ∷ [])) e)
-unfolding firstSome orElse
-two-then-three (some x) b c d e = refl
-two-then-three none (some x) c d e = refl
-two-then-three none none c d e = third-or c d e
-
--- the codes of a commit are those before it is made, and then those after
-pub codes-in-turn : (i : ℕ) (g : Configuration) (c : Commit) → refusesEvent i g (commit c) ≡ orElse (earlyRefusal i (g .store) (viewBefore g c) c) (lateRefusal i g c)
-unfolding refusesEvent earlyRefusal lateRefusal maskRefusal
-codes-in-turn i g c = two-then-three _ _ _ _ _
+-- the codes of a commit: 9, then 13, and then those after it is made
+pub codes-in-turn : (i : ℕ) (g : Configuration) (c : Commit)
+    → refusesEvent i g (commit c) ≡ orElse (when (oldNumber (g .store) c) (refuse 9 i)) (orElse (mapSome (refuseRead i) (wrongRead (g .store) (viewBefore g c) c)) (lateRefusal i g c))
+unfolding refusesEvent lateRefusal maskRefusal firstSome
+codes-in-turn i g c = ap (λ (late : Option Refusal). orElse (when (oldNumber (g .store) c) (refuse 9 i)) (orElse (mapSome (refuseRead i) (wrongRead (g .store) (viewBefore g c) c)) late)) (third-or _ _ _)
 
 -- ---- code 9
 
@@ -71,21 +64,6 @@ old-is s c sessions k b = both (both found same) ((k .bar (c .client) b (c .sess
 
     same : ((t : ℕ) × (t < nextNumber s) × Above t) ↔ ((t : ℕ) × InLog s (c .client) t × (c .session ≤ s .sessionOf t))
     same = (λ (t, l, (p, (e, q))). (t, (p, l, e), q), λ (t, (p, l, e), q). (t, l, (p, (e, q))))
-
--- ---- before the commit is made
-
-module _ (i : ℕ) (s : Store) (u : View) (c : Commit) where
-  pub early-old : {a : Refusal} → T (oldNumber s c) → a ≡ refuse 9 i → some a ≡ earlyRefusal i s u c
-  unfolding earlyRefusal firstSome when orElse
-  early-old t q = rw (q, T-true (oldNumber s c) t)
-
-  pub early-wrong : {a : Refusal} {p : Sighting} → ¬ T (oldNumber s c) → wrongRead s u c ≡ some p → a ≡ refuseRead i p → some a ≡ earlyRefusal i s u c
-  unfolding earlyRefusal firstSome when orElse mapSome
-  early-wrong n e q = rw (q, T-false (oldNumber s c) n, e)
-
-  pub early-none : ¬ T (oldNumber s c) → wrongRead s u c ≡ none → none ≡ earlyRefusal i s u c
-  unfolding earlyRefusal firstSome when orElse mapSome
-  early-none n e = rw (T-false (oldNumber s c) n, e)
 
 -- ---- after it is made
 
@@ -174,13 +152,3 @@ pub noted : (g : Configuration) (c : Commit) (number : ℕ) (fs : Level → Opti
     → KeepsVerdicts (λ l. orElse (fs l) (failsEvent l number g (commit c))) verdicts
 unfolding failsEvent
 noted g c number fs k = k
-
--- the bar as the code reads it
-module _ {s : Store} {u : View} {c : Commit} {sessions versions views values : List ℕ} {client session : ℕ} {ranks : Set} {n : ℕ}
-    (g : EarlyGiven s u c sessions versions views values client session ranks n) (b : client < maxClients) where
-  pub bar-is : T (oldNumber s c) ↔ (session < getD sessions (barPlace client) 0)
-  bar-is =
-      let own : c .client < maxClients = let e = g .client-is in omega arith in
-      subst (λ (d : ℕ). T (oldNumber s c) ↔ (session < getD sessions (2 * maxClients + d) 0)) (g .client-is)
-      (subst (λ (x : ℕ). T (oldNumber s c) ↔ (x < getD sessions (barPlace (c .client)) 0)) (g .session-is)
-      (old-is s c sessions (g .in-sessions) own))

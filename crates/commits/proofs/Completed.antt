@@ -1,4 +1,4 @@
--- A commit that is not refused before it is made: what each part of the work on it is given, and what they come to together. Assumes
+-- A commit whose session number is not too small: what each part of the work on it is given, and what they come to together. Assumes
 -- nothing.
 use Prim.Native.Nat.{ℕ, _+_, _*_, _<_}
 use mathlib.Core.Path.{_≡_, sym, ap, _∙_, subst}
@@ -8,13 +8,11 @@ use mathlib.Core.List.{List}
 use native.Mathlib.Omega.{arith}
 use lib.Dec.{T}
 use lib.ListN.{getD}
-use Rattle.search.proofs.Tests.{when-none, firstSome-none}
 use Rattle.sets.specs.Set.{Set}
 use Rattle.dependencies.specs.History as D
 use Rattle.store.specs.Limits.{maxKeys, maxClients, maxCommits}
 use Rattle.store.specs.Store.{View, Store, Configuration, Commit, commit}
 use Rattle.store.specs.Update.{step, viewBefore, storeAfter}
-use Rattle.store.specs.Refusal.{refuse, oldNumber}
 use Rattle.store.specs.Sound as Store
 use Rattle.store.proofs.Legal.{newer-is}
 use Rattle.store.specs.History.{history, held}
@@ -27,12 +25,12 @@ use Rattle.verdicts.specs.Wants.{Wants}
 use Rattle.verdicts.specs.Verdicts.{Live}
 use Rattle.trying.specs.declared.Tried.{Tried}
 use Rattle.making.specs.Commits.{CommitGiven, MadeIn}
-use Rattle.commits.specs.Codes.{earlyRefusal, LateGiven, JudgeGiven}
+use Rattle.commits.specs.Codes.{LateGiven, JudgeGiven}
 use Rattle.commits.specs.Engines.{BeforeCommit}
 use Rattle.commits.specs.Records.{Recorded, Ready}
 
-module _ {i : ℕ} {g : Configuration} {c : Commit} {clients client session : ℕ} {ranks : Set} {n me : ℕ} {versions keys views seen sessions commits links values fresh : List ℕ}
-    (ready : Ready i g c clients client session ranks n me versions keys views seen sessions commits links values fresh) where
+module _ {g : Configuration} {c : Commit} {clients client session : ℕ} {ranks : Set} {n me : ℕ} {versions keys views seen sessions commits links values fresh : List ℕ}
+    (ready : Ready g c clients client session ranks n me versions keys views seen sessions commits links values fresh) where
   abbrev r : Recorded g c clients n versions keys views seen sessions commits links
   r = ready .recorded
 
@@ -42,12 +40,8 @@ module _ {i : ℕ} {g : Configuration} {c : Commit} {clients client session : �
   below : client < maxClients
   below = let x = r .fits .client-below in let y = r .few-clients in let e = ready .client-is in omega arith
 
-  new-number : ¬ T (oldNumber (g .store) c)
-  unfolding earlyRefusal
-  new-number = when-none (oldNumber (g .store) c) (refuse 9 i) .0 (firstSome-none _ .0 (ready .not-refused) .0)
-
   pub made : Made (g .store) (viewBefore g c) c
-  made = record { sound = r .sound .store; view = r .sound .views (c .client); fits = fits; newer = newer-is g c (r .sound) fits .0 new-number }
+  made = record { sound = r .sound .store; view = r .sound .views (c .client); fits = fits; newer = newer-is g c (r .sound) fits .0 (ready .new-number) }
 
   row : (k : ℕ) → k < n → getD views (maxKeys * client + k) 0 ≡ viewBefore g c k
   row k l = r .keeps .in-views .rows client below k (let e = r .keys-are in omega arith) ∙ ap (λ (d : ℕ). g .views d k) (sym (ready .client-is))

@@ -1,24 +1,23 @@
--- The codes of a commit in two parts, before it is made and after, and what is given where each is asked. Assumes nothing.
-use Prim.Native.Nat.{ℕ, _*_, _≤_}
+-- The codes of a commit that are asked after it is made, and what is given there. Assumes nothing.
+use Prim.Native.Nat.{ℕ, _≤_}
 use mathlib.Core.Path.{_≡_}
 use mathlib.Core.Bool.{Bool}
 use mathlib.Core.Option.{Option, some, none}
-use mathlib.Core.List.{List, [], _∷_}
+use mathlib.Core.List.{List}
 use lib.Dec.{T}
-use Rattle.search.specs.Choose.{mapSome, when, orElse, firstSome}
+use Rattle.search.specs.Choose.{mapSome, orElse}
 use Rattle.sets.specs.Set.{Set}
-use Rattle.store.specs.Limits.{maxKeys, maxCommits}
+use Rattle.store.specs.Limits.{maxCommits}
 use Rattle.dependencies.specs.History as D
-use Rattle.store.specs.Store.{View, Store, Configuration, nextNumber, Commit, commit}
+use Rattle.store.specs.Store.{Configuration, nextNumber, Commit, commit}
 use Rattle.store.specs.Update.{step, viewBefore, storeAfter}
 use Rattle.store.specs.History.{history, held}
-use Rattle.store.specs.Refusal.{Refusal, refuse, refuseKey, refuseRead, oldNumber, wrongRead, stray}
+use Rattle.store.specs.Refusal.{Refusal, refuseKey, stray}
 use Rattle.store.specs.Sound.{Sound}
 use Rattle.store.specs.Image.{ClientsFit}
 use Rattle.growth.specs.Made.{Made}
 use Rattle.growth.specs.Ordered.{Ordered}
-use Rattle.state.specs.Keeps.{IsSet, KeepsSessions, KeepsVersions, KeepsKeys, KeepsViews, KeepsCommits, KeepsMasks, KeepsOperations}
-use Rattle.operations.specs.Given.{Given}
+use Rattle.state.specs.Keeps.{IsSet, KeepsVersions, KeepsKeys, KeepsViews, KeepsCommits, KeepsMasks, KeepsOperations}
 use Rattle.state.specs.Answers.{refusalOf}
 use Rattle.shifts.specs.declared.Sight.{Sight}
 use Rattle.shifts.specs.declared.Sight.the-variants.{Holds, Bad}
@@ -31,22 +30,11 @@ use Rattle.shifts.specs.declared.Outcome.{Outcome}
 use Rattle.shifts.specs.declared.Outcome.the-variants.{Taken}
 use Rattle.shifts.specs.Outcomes.{outcomeOf, maskRefusal}
 
--- codes 9 and 13
-unfoldable pub earlyRefusal : ℕ → Store → View → Commit → Option Refusal
-earlyRefusal i s u c = firstSome (when (oldNumber s c) (refuse 9 i) ∷ mapSome (refuseRead i) (wrongRead s u c) ∷ [])
-
 -- codes 10, 11 and 14
 unfoldable pub lateRefusal : ℕ → Configuration → Commit → Option Refusal
 lateRefusal i g c = orElse (maskRefusal i (storeAfter g c) (c .viewAfter)) (mapSome (refuseKey 14 i) (stray (g .store) (viewBefore g c) c))
 
--- before the commit is made
-pub record EarlyGiven (s : Store) (u : View) (c : Commit) (sessions versions views values : List ℕ) (client session : ℕ) (ranks : Set) (n : ℕ) : Type 0 where
-  pub given : Given s u c versions views (maxKeys * client) values ranks n
-  pub in-sessions : KeepsSessions s sessions
-  pub client-is : c .client ≡ client
-  pub session-is : c .session ≡ session
-
--- after it is made: the versions and keys are those of the store after it, the views are those before
+-- what is given: the versions and keys are those of the store after it, the views are those before
 pub record LateGiven (g : Configuration) (c : Commit) (values versions keys fresh views seen : List ℕ) (client : ℕ) (ranks : Set) (n me : ℕ) : Type 0 where
   pub sound : Sound g
   pub made : Made (g .store) (viewBefore g c) c

@@ -11,7 +11,7 @@ use Rattle.store.specs.Sound.{SoundStore}
 use Rattle.store.specs.History.{history, held}
 use Rattle.store.specs.Image.{ClientsFit}
 use Rattle.growth.specs.Ordered.{Ordered}
-use Rattle.state.specs.Keeps.{IsSet, KeepsVersions, KeepsKeys, KeepsCommits, KeepsLinks, KeepsOperations}
+use Rattle.state.specs.Keeps.{IsSet, KeepsVersions, KeepsKeys, KeepsCommits, KeepsOperations, FollowsLinks}
 use Rattle.state.specs.Rows.{RowAt}
 use Rattle.verdicts.specs.AtHand.{AfterCommit}
 use Rattle.trying.specs.declared.Tried.{Tried}
@@ -26,7 +26,7 @@ pub record BeforeCommit (s : Store) (u : View) (c : Commit) (values versions key
   pub in-versions : KeepsVersions s versions
   pub in-keys : KeepsKeys s keys
   pub in-commits : KeepsCommits s commits
-  pub in-links : KeepsLinks s links
+  pub in-links : FollowsLinks s links
   pub row : RowAt n views base u
   pub operations : KeepsOperations c ranks values
   pub holds : IsSet seen (Holds (history s) (held u))

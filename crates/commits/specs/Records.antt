@@ -3,13 +3,14 @@ use Prim.Native.Nat.{ℕ, _^_, _≤_, _<_}
 use mathlib.Core.Path.{_≡_}
 use mathlib.Core.Option.{Option, none}
 use mathlib.Core.List.{List}
+use lib.Dec.{T}
 use lib.ListN.{getD}
 use Rattle.search.specs.Choose.{orElse}
 use Rattle.sets.specs.Set.{Set}
 use Rattle.store.specs.Limits.{maxClients, maxCommits}
 use Rattle.store.specs.Store.{Configuration, nextNumber, Commit, Event}
-use Rattle.store.specs.Update.{step, viewBefore}
-use Rattle.store.specs.Refusal.{refusesEvent}
+use Rattle.store.specs.Update.{step}
+use Rattle.store.specs.Refusal.{oldNumber, refusesEvent}
 use Rattle.store.specs.Sound.{Sound}
 use Rattle.store.specs.Image.{ClientsFit}
 use Rattle.growth.specs.Ordered.{Ordered}
@@ -23,9 +24,7 @@ use Rattle.levels.specs.Level.{Level, Failure, failsEvent}
 use Rattle.verdicts.specs.Verdicts.{KeepsVerdicts}
 use Rattle.shifts.specs.declared.Outcome.{Outcome}
 use Rattle.shifts.specs.declared.Outcome.the-variants.{Taken}
-use Rattle.commits.specs.Codes.{earlyRefusal}
 use Rattle.commits.specs.declared.record.CommitAt.{CommitAt}
-use Rattle.commits.specs.declared.record.Begun.{Begun}
 
 -- every value that the scratch array holds is a u32
 abbrev pub ValuesFit : List ℕ → Type 0
@@ -46,14 +45,13 @@ pub record Recorded (g : Configuration) (c : Commit) (clients n : ℕ) (versions
   pub fits : FitsCommit n clients c
   pub keeps : Keeps g versions keys views seen sessions commits links
 
--- what is known of it before it is made
-pub record BegunAs (i : ℕ) (g : Configuration) (c : Commit) (n : ℕ) (values fresh : List ℕ) (r : Begun) : Type 0 where
-  pub answer : outcomeOf (r .outcome) ≡ earlyRefusal i (g .store) (viewBefore g c) c
-  pub operations : KeepsOperations c (r .ranks) values
+-- its parts are read
+pub record BegunAs (c : Commit) (ranks : Set) (n : ℕ) (values fresh : List ℕ) : Type 0 where
+  pub operations : KeepsOperations c ranks values
   pub masks : KeepsMasks n (c .viewAfter) fresh
 
--- it is ready to be made: it is not refused before, and its parts are at hand
-pub record Ready (i : ℕ) (g : Configuration) (c : Commit) (clients client session : ℕ) (ranks : Set) (n me : ℕ)
+-- it is ready to be made: its session number is not too small, and its parts are at hand
+pub record Ready (g : Configuration) (c : Commit) (clients client session : ℕ) (ranks : Set) (n me : ℕ)
     (versions keys views seen sessions commits links values fresh : List ℕ) : Type 0 where
   pub recorded : Recorded g c clients n versions keys views seen sessions commits links
   pub client-is : c .client ≡ client
@@ -61,7 +59,7 @@ pub record Ready (i : ℕ) (g : Configuration) (c : Commit) (clients client sess
   pub number-is : nextNumber (g .store) ≡ me
   pub operations : KeepsOperations c ranks values
   pub masks : KeepsMasks n (c .viewAfter) fresh
-  pub not-refused : earlyRefusal i (g .store) (viewBefore g c) c ≡ none
+  pub new-number : ¬ T (oldNumber (g .store) c)
 
 -- ---- what a record comes to
 

@@ -5,17 +5,18 @@ use state::CommitNumber;
 use trying::Tried;
 use verdicts::Held;
 ghost use Prim.Native.Nat.{ℕ, _+_, _≤_, _<_};
+ghost use mathlib.Core.Path.{_≡_};
 ghost use mathlib.Core.List.{List};
 ghost use mathlib.Core.Option.{Option};
 ghost use lib.ListN.{length};
 ghost use Rattle.search.specs.Choose.{orElse};
 ghost use Rattle.dependencies.specs.History.{Holds};
 ghost use Rattle.store.specs.Limits.{maxKeys, numbers};
-ghost use Rattle.store.specs.Store.{Store, View, Commit};
+ghost use Rattle.store.specs.Store.{Store, View, Commit, nextNumber};
 ghost use Rattle.store.specs.History.{history, held};
 ghost use Rattle.levels.specs.Level.{Level, clausesOf, Failure, failsClauses};
 ghost use Rattle.state.specs.Room.{VersionsRoom, KeysRoom, CommitsRoom, LinksRoom, FreshRoom};
-ghost use Rattle.state.specs.Keeps.{IsSet};
+ghost use Rattle.state.specs.Keeps.{IsSet, FollowsLinks};
 ghost use Rattle.verdicts.specs.Wants.{Wants};
 ghost use Rattle.verdicts.specs.Verdicts.{VerdictsRoom, Live, KeepsVerdicts};
 ghost use Rattle.commits.specs.Engines.{BeforeCommit, JudgedAfter};
@@ -27,7 +28,7 @@ pub fn wanted_by(
     versions: &[u64],
     keys: &[u64],
     commits: &[u64],
-    links: &[u64],
+    links: &mut [u64],
     verdicts: &[u64],
     views: &[u64],
     base: usize,
@@ -43,11 +44,12 @@ pub fn wanted_by(
         → IsSet (r .seen) (Holds (history s) (held u)) × Wants s u c (r .wanted))
         ⌝ }
     ensures asked { λ r. ⌜ Live (now (verdicts .entry)) (r .wanted .live) ⌝ }
+    ensures kept { λ _. ⌜ ((s : Store) → s .keys ≡ n → nextNumber s ≡ me .0 → FollowsLinks s (now (links .entry)) → FollowsLinks s (now (links .exit))) ⌝ }
 {
     match engine {
         Engine::Fast => Tried {
             seen,
-            wanted: verdicts::clauses::wanted(keys, commits, links, verdicts, seen, ranks, n),
+            wanted: verdicts::clauses::wanted(keys, commits, links, verdicts, seen, ranks, n, me),
         },
         Engine::Plain => trying::wanted(versions, keys, commits, views, base, ranks, n, me),
     }

@@ -1,10 +1,11 @@
 // One commit of the trace, whole.
 use crate::Engine;
-use crate::early::early;
 use crate::engines::wanted_by;
 use crate::late::late;
 use shifts::Outcome;
 use state::CommitNumber;
+use state::FoundRead;
+use state::Refusal;
 use trace::records::Listing;
 ghost use Prim.Native.Nat.{ℕ, _+_, _*_, _≤_, _<_};
 ghost use mathlib.Core.Path.{_≡_};
@@ -14,7 +15,7 @@ ghost use Rattle.store.specs.Limits.{maxKeys, maxClients, numbers};
 ghost use Rattle.store.specs.Store.{Configuration, Commit, nextNumber, commit};
 ghost use Rattle.trace.specs.Meaning.{OperationsFit, ListingFits};
 ghost use Rattle.levels.specs.Level.{Level, Failure};
-ghost use Rattle.state.specs.Room.{VersionsRoom, ViewsRoom, SessionsRoom, FreshRoom, ValuesRoom, Room};
+ghost use Rattle.state.specs.Room.{ViewsRoom, FreshRoom, ValuesRoom, Room};
 ghost use Rattle.verdicts.specs.Verdicts.{VerdictsRoom, KeepsVerdicts};
 ghost use Rattle.commits.specs.Records.{ValuesFit, commitIn, Recorded, BegunAs, Ready, EventDone};
 
@@ -27,39 +28,29 @@ pub struct CommitAt {
     pub listing: Listing,
 }
 
-// What is known before the commit is made: whether it is refused then, and the ranks of its operations.
-pub struct Begun {
-    pub outcome: Outcome,
-    pub ranks: u64,
-}
-
-// The masks and operations of the commit are read, and codes 9 and 13 are tested.
+// The masks and operations of the commit are read. Answers the ranks of the operations.
 fn begin(
     file: &[u8],
     at: CommitAt,
-    number: usize,
-    versions: &[u64],
     views: &[u64],
-    sessions: &[u64],
     values: &mut [u64],
     fresh: &mut [u64],
     n: usize,
-) -> Begun
+) -> u64
     requires { ⌜ (n ≤ maxKeys) × (at .client < maxClients) × ListingFits (now file) n (at .listing) × OperationsFit (now file) n (at .operations) (at .count) ⌝ }
-    requires { ⌜ VersionsRoom (now versions) × ViewsRoom (now views) × SessionsRoom (now sessions) × ValuesRoom (now values) × FreshRoom (now fresh) ⌝ }
+    requires { ⌜ ViewsRoom (now views) × ValuesRoom (now values) × FreshRoom (now fresh) ⌝ }
     ensures { λ r. ⌜
-        ((g : Configuration) (clients : ℕ) (keys seen commits links : List ℕ)
-        → Recorded g (commitIn g (now (file .entry)) at n) clients n (now (versions .entry)) keys (now (views .entry)) seen (now (sessions .entry)) commits links
+        ((g : Configuration) (clients : ℕ) (versions keys seen sessions commits links : List ℕ)
+        → Recorded g (commitIn g (now (file .entry)) at n) clients n versions keys (now (views .entry)) seen sessions commits links
         → ValuesFit (now (values .entry))
-        → BegunAs number g (commitIn g (now (file .entry)) at n) n (now (values .exit)) (now (fresh .exit)) r)
+        → BegunAs (commitIn g (now (file .entry)) at n) r n (now (values .exit)) (now (fresh .exit)))
         ⌝ }
 {
     let client = at.client;
-    let session = at.session;
     let listing = at.listing;
     let operations = at.operations;
     let count = at.count;
-    let ranks = trace::contents::commit_into(
+    trace::contents::commit_into(
         file,
         operations,
         count,
@@ -69,23 +60,11 @@ fn begin(
         values,
         fresh,
         n,
-    );
-    let outcome = early(
-        number,
-        sessions,
-        versions,
-        views,
-        values,
-        client,
-        session,
-        ranks,
-        n,
-    );
-    Begun { outcome, ranks }
+    )
 }
 
-// A commit that is not refused before it is made: what those of clauses 3 to 8 want of the view before that a level still asks for is gathered, it is made, its view after is tested (codes 10, 11
-// and 14), and the levels judge it. In the common case that the view after is the view before and the commit's own versions, no search is made in it.
+// A commit whose session number is not too small: what those of clauses 3 to 8 want of the view before that a level still asks for is gathered, it is made unless a read is wrong (code 13), its view
+// after is tested (codes 10, 11 and 14), and the levels judge it. In the common case that the view after is the view before and the commit's own versions, no search is made in it.
 fn complete(
     number: usize,
     client: usize,
@@ -109,7 +88,7 @@ fn complete(
     requires { ⌜ Room (now versions) (now keys) (now views) (now seen) (now sessions) (now commits) (now links) ⌝ }
     ensures { λ r. ⌜
         ((g : Configuration) (c : Commit) (clients : ℕ) (fs : Level → Option Failure)
-        → Ready number g c clients client session ranks n (me .0) (now (versions .entry)) (now (keys .entry)) (now (views .entry)) (now (seen .entry)) (now (sessions .entry)) (now (commits .entry)) (now (links .entry)) (now (values .entry)) (now (fresh .entry))
+        → Ready g c clients client session ranks n (me .0) (now (versions .entry)) (now (keys .entry)) (now (views .entry)) (now (seen .entry)) (now (sessions .entry)) (now (commits .entry)) (now (links .entry)) (now (values .entry)) (now (fresh .entry))
         → KeepsVerdicts fs (now (verdicts .entry))
         → EventDone number g fs (commit c) (now (versions .exit)) (now (keys .exit)) (now (views .exit)) (now (seen .exit)) (now (sessions .exit)) (now (commits .exit)) (now (links .exit)) (now (verdicts .exit)) (now (values .entry)) r)
         ⌝ }
@@ -129,7 +108,7 @@ fn complete(
         n,
         me,
     );
-    making::make(
+    let wrong = making::make(
         versions,
         keys,
         views,
@@ -143,6 +122,9 @@ fn complete(
         n,
         me,
     );
+    if let FoundRead::Sees(k, v) = wrong {
+        return Outcome::Refused(Refusal::of_read(number, k, v));
+    }
     late(
         number,
         engine,
@@ -194,26 +176,15 @@ pub fn commit_to(
 {
     let client = at.client;
     let session = at.session;
-    let b = begin(
-        file,
-        at,
-        number,
-        versions,
-        views,
-        sessions,
-        values,
-        fresh,
-        n,
-    );
-    let first = b.outcome;
-    if let Outcome::Refused(r) = first {
-        return Outcome::Refused(r);
+    if (session as u64) < sessions[state::BAR + client] {
+        return Outcome::Refused(Refusal::of_record(9, number));
     }
+    let ranks = begin(file, at, views, values, fresh, n);
     complete(
         number,
         client,
         session,
-        b.ranks,
+        ranks,
         versions,
         keys,
         views,

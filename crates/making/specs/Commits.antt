@@ -7,7 +7,7 @@ use Rattle.store.specs.Limits.{maxKeys, maxClients, maxCommits}
 use Rattle.store.specs.Store.{View, Store, nextNumber, Commit}
 use Rattle.growth.specs.Made.{Made}
 use Rattle.growth.specs.Ordered.{Ordered}
-use Rattle.state.specs.Keeps.{RowIs, KeepsOperations, KeepsVersions, KeepsKeys, KeepsSessions, KeepsCommits, KeepsLinks}
+use Rattle.state.specs.Keeps.{RowIs, KeepsOperations, KeepsVersions, KeepsKeys, KeepsSessions, KeepsCommits, FollowsLinks}
 
 -- commit c of a client, on view u of store s; the store, the view and the operations are in the arrays
 pub record CommitGiven (s : Store) (u : View) (c : Commit) (versions keys views sessions values : List ℕ) (client : ℕ) (ranks : Set) (n : ℕ) : Type 0 where
@@ -28,4 +28,4 @@ pub record MadeIn (s : Store) (versions keys sessions commits links : List ℕ) 
   pub in-keys : KeepsKeys s keys
   pub in-sessions : KeepsSessions s sessions
   pub in-commits : KeepsCommits s commits
-  pub in-links : KeepsLinks s links
+  pub in-links : FollowsLinks s links

@@ -1,6 +1,6 @@
 -- The version that a read sees: what the arrays say of it, and when the read is wrong. Assumes nothing.
 use Prim.Native.Nat.{ℕ, _+_, _*_, _%_, _^_, _≤_, _<_}
-use mathlib.Core.Path.{_≡_, refl, sym, ap, _∙_, subst}
+use mathlib.Core.Path.{_≡_, refl, sym, ap, subst}
 use mathlib.Core.Bool.{Bool, true, false, _&&_, not}
 use mathlib.Core.Logic.{_↔_, _≢_}
 use mathlib.Core.Option.{some, none}
@@ -58,10 +58,7 @@ module _ {s : Store} {u : View} {c : Commit} {versions views : List ℕ} {base :
     pub wrong-unread : ¬ T (has ranks (2 * k)) → ¬ T (wrongAt s u c k)
     wrong-unread n t = n (and-is (has ranks (2 * k)) _ same same .0 (subst T wrong-is t) .0)
 
-    module _ {v : Visible} (e : v ≡ visibleIn versions (getD views (base + k) 0) k) where
-      sees : v ≡ newestVisible s u k
-      sees = e ∙ seen-is versions (g .in-versions .heads k (newest u k) seen-exists)
-
+    module _ {v : Visible} (sees : v ≡ newestVisible s u k) where
       pub wrong-means : T (has ranks (2 * k)) → T (wrongAt s u c k) ↔ (getD values (2 * k) 0 ≢ v .value)
       wrong-means t =
           let x = getD values (2 * k) 0 in

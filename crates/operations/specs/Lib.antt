@@ -1,3 +1,4 @@
 pub mod Given
 pub mod PerKey
 pub mod Change
+pub mod Answers

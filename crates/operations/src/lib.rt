@@ -2,55 +2,26 @@
 // and appends the versions that it writes; both are from before the commit, so a read never sees a write of its own commit.
 // The arrays are described in crates/state/specs. `ranks` holds twice the key for each read, and one more for each write.
 use state::CommitNumber;
-use state::FoundRead;
 use state::Key;
 use state::VersionNumber;
+use state::Visible;
 ghost use mathlib.Core.Path.{_≡_};
-ghost use mathlib.Core.List.{List};
-ghost use Prim.Native.Nat.{ℕ, _+_, _*_, _^_, _<_, _≤_};
+ghost use Prim.Native.Nat.{_+_, _*_, _^_, _<_, _≤_};
 ghost use lib.Bits.{bitOr};
 ghost use Rattle.store.specs.Limits.{maxKeys, numbers, perKey};
-ghost use Rattle.store.specs.Store.{View, Store, nextNumber, Commit};
-ghost use Rattle.store.specs.Refusal.{wrongRead};
-ghost use Rattle.store.specs.Update.{update};
+ghost use Rattle.store.specs.Store.{View, Store, Commit};
 ghost use Rattle.state.specs.Places.{headPlace, readersPlace, viewsLength};
-ghost use Rattle.growth.specs.Links.{FromRead, FromWrite, ToLater};
-ghost use Rattle.growth.specs.Ordered.{Ordered};
+ghost use Rattle.growth.specs.Links.{FromWrite};
 ghost use Rattle.state.specs.Room.{VersionsRoom, KeysRoom, ViewsRoom, ValuesRoom};
-ghost use Rattle.state.specs.Answers.{sightingOf};
 ghost use Rattle.state.specs.Keeps.{IsSet, KeepsVersions, KeepsKeys};
 ghost use Rattle.operations.specs.Given.{Given, Appending};
-ghost use Rattle.operations.specs.Change.{freeBit, free, readerAdded, versionAdded, keyGrown, readsNoted, writesAppended};
+ghost use Rattle.operations.specs.Change.{freeBit, free, readerAdded, versionAdded, keyGrown, writesAppended};
+ghost use Rattle.operations.specs.Answers.{ReadsSay, LinkedSays};
 
 // The two accesses, by their place in a rank.
 const READ: usize = 0;
 
 const WRITE: usize = 1;
-
-// Code 13: the least key that is read with another value than that of the newest version in the view, and that version with its writer.
-pub fn wrong_read(
-    versions: &[u64],
-    views: &[u64],
-    base: usize,
-    values: &[u64],
-    ranks: u64,
-    n: usize,
-) -> FoundRead
-    requires { ⌜ VersionsRoom (now versions) × ViewsRoom (now views) × (base + n ≤ viewsLength) × (n ≤ maxKeys) × ValuesRoom (now values) ⌝ }
-    ensures { λ r. ⌜ ((s : Store) (u : View) (c : Commit)
-        → Given s u c (now (versions .entry)) (now (views .entry)) base (now (values .entry)) ranks n → sightingOf r ≡ wrongRead s u c) ⌝ }
-{
-    let mut left = state::keys_with(ranks, READ, n);
-    while left != 0 {
-        let k = sets::lowest(left) / 2;
-        let sees = state::newest_visible(versions, views[base + k], Key(k));
-        if values[2 * k] != sees.value {
-            return FoundRead::Sees(Key(k), sees);
-        }
-        left = sets::rest(left);
-    }
-    FoundRead::NoRead
-}
 
 // The reader `me` added to a version of key k.
 fn note_read(versions: &mut [u64], k: Key, version: VersionNumber, me: CommitNumber)
@@ -61,29 +32,31 @@ fn note_read(versions: &mut [u64], k: Key, version: VersionNumber, me: CommitNum
     versions[at] = sets::insert(versions[at], me.0);
 }
 
-// The writers of the versions that a commit reads, and those of later versions of the same keys.
-pub struct Reads {
-    pub from: u64,
-    pub over: u64,
+// What the reads of a commit come to: the writers of the versions that it reads, and those of later versions of the same keys; or the first read that is wrong,
+// and what it sees.
+pub enum Reads {
+    Right { from: u64, over: u64 },
+    Wrong(Key, Visible),
 }
 
 // "Reads add the commit to that version's readers." Answers whose versions are read, and who wrote later ones: as writers rise with the
-// version number, these are the writers of the key that are above the writer of the version that is read.
+// version number, these are the writers of the key that are above the writer of the version that is read. It stops at the least key that is read with another
+// value than that of the newest version in the view (code 13).
 pub fn note_reads(
     versions: &mut [u64],
     keys: &[u64],
     views: &[u64],
     base: usize,
+    values: &[u64],
     ranks: u64,
     n: usize,
     me: CommitNumber,
 ) -> Reads
-    requires { ⌜ VersionsRoom (now versions) × KeysRoom (now keys) × ViewsRoom (now views) × (base + n ≤ viewsLength) × (n ≤ maxKeys) × (me .0 < numbers) ⌝ }
-    ensures noted { λ _. ⌜ ((s : Store) (u : View) (c : Commit) (values : List ℕ)
-        → Given s u c (now (versions .entry)) (now (views .entry)) base values ranks n → KeepsVersions (readsNoted s u c (me .0)) (now (versions .exit))) ⌝ }
-    ensures links { λ r. ⌜ ((s : Store) (u : View) (c : Commit) (values : List ℕ)
-        → Given s u c (now (versions .entry)) (now (views .entry)) base values ranks n → KeepsKeys s (now (keys .entry)) → Ordered s
-        → IsSet (r .from) (FromRead s u c) × IsSet (r .over) (ToLater s u c)) ⌝ }
+    requires { ⌜ VersionsRoom (now versions) × KeysRoom (now keys) × ViewsRoom (now views) × ValuesRoom (now values)
+        × (base + n ≤ viewsLength) × (n ≤ maxKeys) × (me .0 < numbers) ⌝ }
+    ensures { λ r. ⌜ ((s : Store) (u : View) (c : Commit)
+        → Given s u c (now (versions .entry)) (now (views .entry)) base (now (values .entry)) ranks n
+        → ReadsSay s u c (me .0) (now (versions .exit)) (now (keys .entry)) r) ⌝ }
 {
     let mut from: u64 = 0;
     let mut over: u64 = 0;
@@ -91,17 +64,18 @@ pub fn note_reads(
     while left != 0 {
         let k = sets::lowest(left) / 2;
         let sees = state::newest_visible(versions, views[base + k], Key(k));
+        if values[2 * k] != sees.value {
+            return Reads::Wrong(Key(k), sees);
+        }
         let version = sees.version;
         let writer = sees.writer;
         from = sets::union(from, sets::single(writer.0));
-        over = sets::union(
-            over,
-            sets::without(keys[state::WRITERS + k], sets::up_to(writer.0)),
-        );
+        let later = sets::without(keys[state::WRITERS + k], sets::up_to(writer.0));
+        over = sets::union(over, later);
         note_read(versions, Key(k), version, me);
         left = sets::rest(left);
     }
-    Reads { from, over }
+    Reads::Right { from, over }
 }
 
 // The head of a version: its value, and its writer above it.
@@ -171,14 +145,15 @@ pub fn append(
     earlier
 }
 
-// The commits from which links lead to the commit that is made, by WR and WW, and those to which RW leads from it.
-pub struct Linked {
-    pub from: u64,
-    pub earlier: u64,
-    pub over: u64,
+// The commits from which links lead to the commit that is made, by WR and WW, and those to which RW leads from it; or the first read that is wrong, and what
+// it sees.
+pub enum Linked {
+    Made { from: u64, earlier: u64, over: u64 },
+    Wrong(Key, Visible),
 }
 
-// All operations of commit `me`, made on the view in the row at `base`: the reads first, which see what was there before.
+// All operations of commit `me`, made on the view in the row at `base`: the reads first, which see what was there before. Where one is wrong (code 13), nothing
+// is written.
 pub fn perform(
     versions: &mut [u64],
     keys: &mut [u64],
@@ -191,18 +166,19 @@ pub fn perform(
 ) -> Linked
     requires { ⌜ VersionsRoom (now versions) × KeysRoom (now keys) × ViewsRoom (now views) × ValuesRoom (now values)
         × (base + n ≤ viewsLength) × (n ≤ maxKeys) × (me .0 < numbers) ⌝ }
-    ensures made { λ _. ⌜ ((s : Store) (u : View) (c : Commit)
-        → Given s u c (now (versions .entry)) (now (views .entry)) base (now (values .entry)) ranks n → KeepsKeys s (now (keys .entry)) → me .0 ≡ nextNumber s
-        → KeepsVersions (update s u c) (now (versions .exit)) × KeepsKeys (update s u c) (now (keys .exit))) ⌝ }
-    ensures links { λ r. ⌜ ((s : Store) (u : View) (c : Commit)
-        → Given s u c (now (versions .entry)) (now (views .entry)) base (now (values .entry)) ranks n → KeepsKeys s (now (keys .entry)) → Ordered s
-        → IsSet (r .from) (FromRead s u c) × IsSet (r .earlier) (FromWrite s c) × IsSet (r .over) (ToLater s u c)) ⌝ }
+    ensures { λ r. ⌜ ((s : Store) (u : View) (c : Commit)
+        → Given s u c (now (versions .entry)) (now (views .entry)) base (now (values .entry)) ranks n → KeepsKeys s (now (keys .entry))
+        → LinkedSays s u c (me .0) (now (versions .exit)) (now (keys .exit)) r) ⌝ }
 {
-    let reads = note_reads(versions, keys, views, base, ranks, n, me);
-    let earlier = append(versions, keys, values, ranks, n, me);
-    Linked {
-        from: reads.from,
-        earlier,
-        over: reads.over,
+    match note_reads(versions, keys, views, base, values, ranks, n, me) {
+        Reads::Wrong(k, v) => Linked::Wrong(k, v),
+        Reads::Right { from, over } => {
+            let earlier = append(versions, keys, values, ranks, n, me);
+            Linked::Made {
+                from,
+                earlier,
+                over,
+            }
+        }
     }
 }

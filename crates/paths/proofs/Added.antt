@@ -110,3 +110,13 @@ module _ (me : ℕ) (first into over ranks : Set) (n : ℕ) (numbered : me < num
   pub added : (prefix snapshot : Set) → IsSet prefix (BroughtBelow 0 before ranks n) → IsSet snapshot (BroughtBelow 1 before ranks n) → w₀ ≡ union into prefix → w₁ ≡ union into snapshot
       → (length after ≡ length before) × AddedKind 0 me first into over ranks n before after × AddedKind 1 me into into over ranks n before after
   added prefix snapshot p s e f = (long, added-kind 0 (omega arith) prefix p e, added-kind 1 (omega arith) snapshot s f)
+
+  -- what stands behind the leads stays
+  pub notes-stay : (j : ℕ) → 2 * numbers + 2 * maxKeys ≤ j → getD after j 0 ≡ getD before j 0
+  notes-stay j l = brings .stays j no-lead ∙ other-word j (λ e. absurd (omega arith)) (λ e. absurd (omega arith)) ∙ pointed .stays j no-row
+    where
+      no-lead : (g : Set) → ¬ LeadsOf ranks n first into j g
+      no-lead g (k, m, (_, (kind, b, e, _))) = absurd (omega (arith, few))
+
+      no-row : (g : Set) → ¬ RowsOf over first into j g
+      no-row g (t, x, (kind, b, e, _)) = absurd (omega (arith, has-lt 64 over t fits x))

@@ -3,3 +3,4 @@ pub mod Swept
 pub mod Joined
 pub mod Added
 pub mod Kept
+pub mod Noted

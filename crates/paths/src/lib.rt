@@ -1,19 +1,22 @@
 // Paths of links for clauses 6 and 7. The array `links` is described in crates/state (specs/Places.antt, specs/Keeps.antt): for each kind, 0 for
 // clause 6 and 1 for clause 7, a row for each commit with the commits that lead to it by one step; then for each kind and key the commits that
-// a link leads from to a reader of the key, which an RW link brings along to the next writer of the key.
+// a link leads from to a reader of the key, which an RW link brings along to the next writer of the key. A commit's links are only noted when it is made: they
+// are entered once a clause asks for them.
 use state::CommitNumber;
 ghost use mathlib.Core.Path.{_≡_};
 ghost use mathlib.Core.List.{List};
 ghost use Prim.Native.Nat.{ℕ, _*_, _<_, _≤_};
 ghost use lib.Dec.{T};
+ghost use lib.ListN.{getD};
 ghost use Rattle.sets.specs.Set.{has, below};
 ghost use Rattle.store.specs.Limits.{maxKeys, numbers};
 ghost use Rattle.store.specs.Store.{Store, View, Commit, nextNumber};
 ghost use Rattle.store.specs.Update.{update};
 ghost use Rattle.growth.specs.Made.{Made};
 ghost use Rattle.growth.specs.Links.{FromSession, FromRead, FromWrite, ToLater};
+ghost use Rattle.state.specs.Places.{notePlace};
 ghost use Rattle.state.specs.Room.{LinksRoom};
-ghost use Rattle.state.specs.Keeps.{IsSet, KeepsLinks, KeepsOperations};
+ghost use Rattle.state.specs.Keeps.{IsSet, KeepsLinks, KeepsOperations, Noted, FollowsLinks};
 ghost use Rattle.state.specs.Rows.{InRows};
 ghost use Rattle.paths.specs.Path.{LeadsInto};
 ghost use Rattle.paths.specs.Added.{BroughtBelow, Joined, RowsOf, LeadsOf};
@@ -149,7 +152,7 @@ fn bring(links: &mut [u64], ranks: u64, n: usize, first: u64, into: u64)
 
 // The links with the commit `me`, whose operations have the given ranks, on keys below n: SO leads to it from `so`, WR from `sources` and WW from
 // `earlier`, and RW leads from it to `over`. RW may follow SO and WR for clause 6, and WW too for clause 7; any of the three leads to it alone.
-pub fn add(
+fn add(
     links: &mut [u64],
     me: CommitNumber,
     so: u64,
@@ -160,11 +163,12 @@ pub fn add(
     n: usize,
 )
     requires { ⌜ LinksRoom (now links) × (me .0 < numbers) × (n ≤ maxKeys) ⌝ }
-    ensures { λ _. ⌜
+    ensures kept { λ _. ⌜
         ((s : Store) (u : View) (c : Commit) (values : List ℕ) → Made s u c → nextNumber s ≡ me .0 → s .keys ≡ n → KeepsOperations c ranks values
         → IsSet so (FromSession s c) → IsSet sources (FromRead s u c) → IsSet earlier (FromWrite s c) → IsSet over (ToLater s u c)
         → KeepsLinks s (now (links .entry)) → KeepsLinks (update s u c) (now (links .exit)))
         ⌝ }
+    ensures notes { λ _. ⌜ ((part t : ℕ) → getD (now (links .exit)) (notePlace part t) 0 ≡ getD (now (links .entry)) (notePlace part t) 0) ⌝ }
 {
     let first = sets::union(so, sources);
     let into = sets::union(first, earlier);
@@ -174,4 +178,67 @@ pub fn add(
     links[t] = sets::union(into, more.prefix);
     links[state::SNAPSHOT_LINKS + t] = sets::union(into, more.snapshot);
     bring(links, ranks, n, first, into);
+}
+
+// The links with the commit `me`, as `add` is given them, are noted.
+pub fn note(
+    links: &mut [u64],
+    me: CommitNumber,
+    so: u64,
+    sources: u64,
+    earlier: u64,
+    over: u64,
+    ranks: u64,
+)
+    requires { ⌜ LinksRoom (now links) × (me .0 < numbers) ⌝ }
+    ensures { λ _. ⌜
+        ((s : Store) (u : View) (c : Commit) (values : List ℕ) → Made s u c → nextNumber s ≡ me .0 → KeepsOperations c ranks values
+        → IsSet so (FromSession s c) → IsSet sources (FromRead s u c) → IsSet earlier (FromWrite s c) → IsSet over (ToLater s u c)
+        → FollowsLinks s (now (links .entry)) → FollowsLinks (update s u c) (now (links .exit)))
+        ⌝ }
+{
+    let at = state::NOTES + state::NOTE * me.0;
+    links[at] = so;
+    links[at + 1] = sources;
+    links[at + 2] = earlier;
+    links[at + 3] = over;
+    links[at + 4] = ranks;
+}
+
+// The links with commit `t`, as they are noted, are entered, on keys below n.
+fn enter(links: &mut [u64], t: CommitNumber, n: usize)
+    requires { ⌜ LinksRoom (now links) × (t .0 < numbers) × (n ≤ maxKeys) ⌝ }
+    ensures kept { λ _. ⌜
+        ((s : Store) (u : View) (c : Commit) → Noted s u c (now (links .entry)) → nextNumber s ≡ t .0 → s .keys ≡ n
+        → KeepsLinks s (now (links .entry)) → KeepsLinks (update s u c) (now (links .exit)))
+        ⌝ }
+    ensures notes { λ _. ⌜ ((part t : ℕ) → getD (now (links .exit)) (notePlace part t) 0 ≡ getD (now (links .entry)) (notePlace part t) 0) ⌝ }
+{
+    let at = state::NOTES + state::NOTE * t.0;
+    let so = links[at];
+    let sources = links[at + 1];
+    let earlier = links[at + 2];
+    let over = links[at + 3];
+    let ranks = links[at + 4];
+    add(links, t, so, sources, earlier, over, ranks, n);
+}
+
+// The links of all commits before `me` are entered, on keys below n.
+pub fn catch_up(links: &mut [u64], n: usize, me: CommitNumber)
+    requires { ⌜ LinksRoom (now links) × (me .0 < numbers) × (n ≤ maxKeys) ⌝ }
+    ensures { λ _. ⌜
+        ((s : Store) → s .keys ≡ n → nextNumber s ≡ me .0 → FollowsLinks s (now (links .entry))
+        → KeepsLinks s (now (links .exit)) × FollowsLinks s (now (links .exit)))
+        ⌝ }
+{
+    if me.0 == 0 {
+        return;
+    }
+    let end = me.0 - 1;
+    let mut last = links[state::ENTERED] as usize;
+    while last < end {
+        last = last + 1;
+        enter(links, CommitNumber(last), n);
+    }
+    links[state::ENTERED] = end as u64;
 }

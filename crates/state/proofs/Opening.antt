@@ -21,8 +21,8 @@ use Rattle.store.specs.History.{Wrote, history, held}
 use Rattle.store.proofs.Sound.{opening-first, sound-opening}
 use Rattle.store.proofs.Opening.{opening-history}
 use Rattle.growth.specs.Sessions.{ReadUpTo}
-use Rattle.state.specs.Places.{headPlace, readersPlace, fullPlace, writersPlace, viewPlace, commitsPlace, drawnPlace, barPlace, beforePlace, readPlace, linkPlace, leadPlace, clientRows, versionsLength, keysLength, viewsLength, seenLength, sessionsLength, commitsLength, linksLength}
-use Rattle.state.specs.Keeps.{IsSet, RowIs, KeepsVersions, KeepsKeys, KeepsViews, KeepsSessions, KeepsCommits, KeepsLinks, Keeps, WroteKey, CommitOf, FirstLink, Step}
+use Rattle.state.specs.Places.{headPlace, readersPlace, fullPlace, writersPlace, viewPlace, commitsPlace, drawnPlace, barPlace, beforePlace, readPlace, linkPlace, leadPlace, enteredPlace, clientRows, versionsLength, keysLength, viewsLength, seenLength, sessionsLength, commitsLength, linksLength}
+use Rattle.state.specs.Keeps.{IsSet, RowIs, KeepsVersions, KeepsKeys, KeepsViews, KeepsSessions, KeepsCommits, KeepsLinks, NotedSince, FollowsLinks, Keeps, WroteKey, CommitOf, FirstLink, Step}
 
 -- an array of n words x
 abbrev pub filled : ℕ → ℕ → List ℕ
@@ -35,7 +35,7 @@ ones : (n j : ℕ) → j < n → getD (filled n 1) j 0 ≡ 1
 ones n j l = getD-replicate n j 1 0 l
 
 -- zeros are read as zero at any place
-zeros : (n j : ℕ) → getD (filled n 0) j 0 ≡ 0
+pub zeros : (n j : ℕ) → getD (filled n 0) j 0 ≡ 0
 zeros n j = go (decLt j n)
   where
     go : Dec (j < n) → getD (filled n 0) j 0 ≡ 0
@@ -159,6 +159,10 @@ module _ (keys : ℕ) where
     leads = λ kind b k l. nothing-in _ (zeros linksLength (leadPlace kind k)) (λ a (r, x, y). no-first kind a r y);
   }
 
+  follows-links : keys ≤ maxKeys → FollowsLinks s (filled linksLength 0)
+  unfolding NotedSince opening openingStore
+  follows-links few = record { earlier = s; number-is = sym (zeros linksLength enteredPlace); few = few; kept = keeps-links; since = 0; noted = refl }
+
   -- "At the start each list is version 0 ..; each client's view is {0} at each key"
   pub keeps-opening : 1 ≤ keys → keys ≤ maxKeys
       → Keeps (opening keys) (filled versionsLength 0) (filled keysLength 1) (filled viewsLength 1) (filled seenLength 1) (filled sessionsLength 0) (filled commitsLength 0) (filled linksLength 0)
@@ -168,5 +172,5 @@ module _ (keys : ℕ) where
     in-views = keeps-views some few;
     in-sessions = keeps-sessions;
     in-commits = keeps-commits;
-    in-links = keeps-links;
+    in-links = follows-links few;
   }

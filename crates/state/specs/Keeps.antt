@@ -11,12 +11,14 @@ use Rattle.sets.specs.Set.{Set, has, below}
 use Rattle.relations.specs.Relation.{ThenMaybe}
 use Rattle.dependencies.specs.History.{Stored, Holds, PrefixStep, SnapshotStep}
 use Rattle.dependencies.specs.History as D
-use Rattle.store.specs.Limits.{maxClients}
+use Rattle.store.specs.Limits.{maxKeys, maxClients}
 use Rattle.store.specs.Store.{Key, CommitNumber, Client, SessionNumber, View, Store, Configuration, count, version, nextNumber, read, write, Commit}
-use Rattle.store.specs.Update.{valueOf}
+use Rattle.store.specs.Update.{valueOf, update}
 use Rattle.store.specs.History.{Wrote, Read, InLog, history, held}
+use Rattle.growth.specs.Made.{Made}
+use Rattle.growth.specs.Links.{FromSession, FromRead, FromWrite, ToLater}
 use Rattle.growth.specs.Sessions.{ReadUpTo}
-use Rattle.state.specs.Places.{numbers, headPlace, readersPlace, fullPlace, writersPlace, viewPlace, storedRow, commitsPlace, drawnPlace, barPlace, logPlace, beforePlace, readPlace, linkPlace, leadPlace, packed}
+use Rattle.state.specs.Places.{numbers, headPlace, readersPlace, fullPlace, writersPlace, viewPlace, storedRow, commitsPlace, drawnPlace, barPlace, logPlace, beforePlace, readPlace, linkPlace, leadPlace, notePlace, enteredPlace, packed}
 use Rattle.state.specs.Room.{VersionsRoom, KeysRoom, ViewsRoom, SeenRoom, SessionsRoom, CommitsRoom, LinksRoom, FreshRoom, ValuesRoom}
 
 -- a word is the set of the numbers with P
@@ -81,6 +83,15 @@ pub record KeepsCommits (s : Store) (commits : List ℕ) : Type 0 where
   -- the writers of what the commit read, or a commit before it in SO read
   pub read : (t : CommitNumber) → t < numbers → IsSet (getD commits (readPlace t) 0) (λ w. ReadUpTo (history s) w t)
 
+-- ---- the operations of a commit
+
+-- by rank: twice the key for a read, one more for a write
+pub record KeepsOperations (c : Commit) (ranks : Set) (values : List ℕ) : Type 0 where
+  pub room : ValuesRoom values
+  pub reads : (k : Key) → valueOf read (c .operations) k ≡ when (has ranks (2 * k)) (getD values (2 * k) 0)
+  pub writes : (k : Key) → valueOf write (c .operations) k ≡ when (has ranks (2 * k + 1)) (getD values (2 * k + 1) 0)
+  pub value-fits : (r : ℕ) → getD values r 0 < 2 ^ 32
+
 -- ---- links, for clauses 6 and 7
 
 -- the link that starts a step, before an RW link: SO or WR for clause 6, SO, WR or WW for clause 7
@@ -98,19 +109,39 @@ pub record KeepsLinks (s : Store) (links : List ℕ) : Type 0 where
   pub leads : (kind : ℕ) → kind < 2 → (k : Key) → k < s .keys
       → IsSet (getD links (leadPlace kind k) 0) (λ a. (r : ℕ) × ReadKey s k r × FirstLink kind s a r)
 
--- ---- the record at hand
+-- the links of commit c, made on view u of store s, are noted in its row: from where SO, WR and WW lead to it, to where RW leads from it, and the ranks of its
+-- operations
+pub record Noted (s : Store) (u : View) (c : Commit) (links : List ℕ) : Type 0 where
+  pub made : Made s u c
+  pub from-session : IsSet (getD links (notePlace 0 (nextNumber s)) 0) (FromSession s c)
+  pub from-reads : IsSet (getD links (notePlace 1 (nextNumber s)) 0) (FromRead s u c)
+  pub from-writes : IsSet (getD links (notePlace 2 (nextNumber s)) 0) (FromWrite s c)
+  pub to-later : IsSet (getD links (notePlace 3 (nextNumber s)) 0) (ToLater s u c)
+  pub values : List ℕ
+  pub operations : KeepsOperations c (getD links (notePlace 4 (nextNumber s)) 0) values
 
--- the masks of a record
+-- m commits lead from store a to store b, and each is noted
+unfoldable pub NotedSince : ℕ → List ℕ → Store → Store → Type 0
+NotedSince zero links a b = a ≡ b
+NotedSince (suc m) links a b = (u : View) × (c : Commit) × Noted a u c links × NotedSince m links (update a u c) b
+
+-- the links are entered of the store that the last of these commits left, and noted of the commits since
+pub record EnteredTo (last : CommitNumber) (s : Store) (links : List ℕ) : Type 0 where
+  pub earlier : Store
+  pub number-is : earlier .commits ≡ last
+  pub few : earlier .keys ≤ maxKeys
+  pub kept : KeepsLinks earlier links
+  pub since : ℕ
+  pub noted : NotedSince since links earlier s
+
+abbrev pub FollowsLinks : Store → List ℕ → Type 0
+FollowsLinks s links = EnteredTo (getD links enteredPlace 0) s links
+
+-- ---- the masks of a record
+
 pub record KeepsMasks (keys : ℕ) (u : View) (fresh : List ℕ) : Type 0 where
   pub room : FreshRoom fresh
   pub masks : (k : Key) → k < keys → getD fresh k 0 ≡ u k
-
--- the operations of a commit, by rank: twice the key for a read, one more for a write
-pub record KeepsOperations (c : Commit) (ranks : Set) (values : List ℕ) : Type 0 where
-  pub room : ValuesRoom values
-  pub reads : (k : Key) → valueOf read (c .operations) k ≡ when (has ranks (2 * k)) (getD values (2 * k) 0)
-  pub writes : (k : Key) → valueOf write (c .operations) k ≡ when (has ranks (2 * k + 1)) (getD values (2 * k + 1) 0)
-  pub value-fits : (r : ℕ) → getD values r 0 < 2 ^ 32
 
 -- ---- all of them
 
@@ -120,4 +151,4 @@ pub record Keeps (g : Configuration) (versions keys views seen sessions commits 
   pub in-views : KeepsViews g views seen
   pub in-sessions : KeepsSessions (g .store) sessions
   pub in-commits : KeepsCommits (g .store) commits
-  pub in-links : KeepsLinks (g .store) links
+  pub in-links : FollowsLinks (g .store) links

@@ -68,15 +68,25 @@ readPlace t = 2 * numbers + t
 abbrev pub commitsLength : ℕ
 commitsLength = 3 * numbers
 
--- links: for clause 6 and then for clause 7, the commits with a link to each; then for each key what its readers bring along
+-- links: for clause 6 and then for clause 7, the commits with a link to each; then for each key what its readers bring along; then for each commit a row of
+-- what is noted of its links, and the last commit whose links are entered in what stands before
 abbrev pub linkPlace : ℕ → CommitNumber → ℕ
 linkPlace kind t = numbers * kind + t
 
 abbrev pub leadPlace : ℕ → Key → ℕ
 leadPlace kind k = 2 * numbers + (maxKeys * kind + k)
 
+abbrev pub noteParts : ℕ
+noteParts = 5
+
+abbrev pub notePlace : ℕ → CommitNumber → ℕ
+notePlace part t = 2 * numbers + 2 * maxKeys + (noteParts * t + part)
+
+abbrev pub enteredPlace : ℕ
+enteredPlace = 2 * numbers + 2 * maxKeys + noteParts * numbers
+
 abbrev pub linksLength : ℕ
-linksLength = 2 * numbers + 2 * maxKeys
+linksLength = 2 * numbers + 2 * maxKeys + noteParts * numbers + 1
 
 -- the record at hand: the masks of its view, and the values of its operations by rank, two for each key
 abbrev pub freshLength : ℕ

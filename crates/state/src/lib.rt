@@ -53,12 +53,19 @@ pub const BEFORE: usize = Store::NUMBERS;
 
 pub const READ_FROM: usize = 2 * Store::NUMBERS;
 
-// links: the rows of clause 7, after those of clause 6; then what the readers of each key bring along, for clause 6 and for clause 7.
+// links: the rows of clause 7, after those of clause 6; then what the readers of each key bring along, for clause 6 and for clause 7; then a row for each commit
+// of what is noted of its links, and the last commit whose links are entered.
 pub const SNAPSHOT_LINKS: usize = Store::NUMBERS;
 
 pub const LEADS: usize = 2 * Store::NUMBERS;
 
 pub const SNAPSHOT_LEADS: usize = LEADS + Store::KEYS;
+
+pub const NOTE: usize = 5;
+
+pub const NOTES: usize = LEADS + 2 * Store::KEYS;
+
+pub const ENTERED: usize = NOTES + NOTE * Store::NUMBERS;
 
 // The record at hand: so many masks, and so many values.
 pub const FRESH: usize = Store::KEYS;

@@ -17,8 +17,8 @@ pub struct Store {
     pub sessions: [u64; 3 * Store::CLIENTS],
     // Of each commit its client and session number; the commits before it in its session; the writers that it and these read from.
     pub commits: [u64; 3 * Store::NUMBERS],
-    // The links of clauses 6 and 7.
-    pub links: [u64; 2 * Store::NUMBERS + 2 * Store::KEYS],
+    // The links of clauses 6 and 7; of each commit what is noted of its links; the last commit whose links are entered.
+    pub links: [u64; 2 * Store::NUMBERS + 2 * Store::KEYS + 5 * Store::NUMBERS + 1],
 }
 
 impl Store {
@@ -66,7 +66,7 @@ impl Store {
         ensures versions { λ r. ⌜ r .versions ≡ replicate (2 * (perKey * maxKeys)) 0 ⌝ }
         ensures keys { λ r. ⌜ r .keys ≡ replicate (2 * maxKeys) 1 ⌝ }
         ensures seen { λ r. ⌜ r .seen ≡ replicate maxClients 1 ⌝ }
-        ensures commits { λ r. ⌜ (r .sessions ≡ replicate (3 * maxClients) 0) × (r .commits ≡ replicate (3 * numbers) 0) × (r .links ≡ replicate (2 * numbers + 2 * maxKeys) 0) ⌝ }
+        ensures commits { λ r. ⌜ (r .sessions ≡ replicate (3 * maxClients) 0) × (r .commits ≡ replicate (3 * numbers) 0) × (r .links ≡ replicate (2 * numbers + 2 * maxKeys + 5 * numbers + 1) 0) ⌝ }
     {
         Store {
             versions: [0; 2 * Store::VERSIONS * Store::KEYS],
@@ -74,7 +74,7 @@ impl Store {
             seen: [1; Store::CLIENTS],
             sessions: [0; 3 * Store::CLIENTS],
             commits: [0; 3 * Store::NUMBERS],
-            links: [0; 2 * Store::NUMBERS + 2 * Store::KEYS],
+            links: [0; 2 * Store::NUMBERS + 2 * Store::KEYS + 5 * Store::NUMBERS + 1],
         }
     }
 }

@@ -13,12 +13,12 @@ ghost use lib.Dec.{T};
 ghost use Rattle.sets.specs.Set.{has, insert, width};
 ghost use Rattle.dependencies.specs.History.{Holds};
 ghost use Rattle.store.specs.Limits.{maxKeys, numbers};
-ghost use Rattle.store.specs.Store.{Store, View, Commit};
+ghost use Rattle.store.specs.Store.{Store, View, Commit, nextNumber};
 ghost use Rattle.store.specs.Sound.{SoundStore};
 ghost use Rattle.store.specs.History.{history, held};
 ghost use Rattle.growth.specs.Ordered.{Ordered};
 ghost use Rattle.state.specs.Room.{KeysRoom, CommitsRoom, LinksRoom};
-ghost use Rattle.state.specs.Keeps.{IsSet, KeepsKeys, KeepsCommits, KeepsLinks, KeepsOperations};
+ghost use Rattle.state.specs.Keeps.{IsSet, KeepsKeys, KeepsCommits, KeepsOperations, FollowsLinks};
 ghost use Rattle.state.specs.Answers.{placeOf};
 ghost use Rattle.paths.specs.Path.{LeadsInto};
 ghost use Rattle.verdicts.specs.Sources.{InKeys, PastOf};
@@ -47,10 +47,14 @@ fn past(commits: &[u64], seen: u64, lacking: u64, live: u64) -> state::Gathered
     state::gather_two(commits, state::BEFORE, state::READ_FROM, seen)
 }
 
-// For clauses 6 and 7: what leads to the commits of the set.
-fn leads(links: &[u64], seen: u64, live: u64) -> paths::Leads
-    requires { ⌜ LinksRoom (now links) ⌝ }
-    ensures { λ r. ⌜ (T (has live 6) ⊎ T (has live 7) → (s : Store) → KeepsLinks s (now (links .entry)) → IsSet (r .prefix) (LeadsInto 0 s seen) × IsSet (r .snapshot) (LeadsInto 1 s seen)) ⌝ }
+// For clauses 6 and 7: what leads to the commits of the set. The links of the commits before `me` are entered first.
+fn leads(links: &mut [u64], seen: u64, live: u64, n: usize, me: state::CommitNumber) -> paths::Leads
+    requires { ⌜ LinksRoom (now links) × (me .0 < numbers) × (n ≤ maxKeys) ⌝ }
+    ensures { λ r. ⌜
+        (T (has live 6) ⊎ T (has live 7) → (s : Store) → s .keys ≡ n → nextNumber s ≡ me .0 → FollowsLinks s (now (links .entry))
+        → IsSet (r .prefix) (LeadsInto 0 s seen) × IsSet (r .snapshot) (LeadsInto 1 s seen))
+        ⌝ }
+    ensures kept { λ _. ⌜ ((s : Store) → s .keys ≡ n → nextNumber s ≡ me .0 → FollowsLinks s (now (links .entry)) → FollowsLinks s (now (links .exit))) ⌝ }
 {
     if live & 192 == 0 {
         return paths::Leads {
@@ -58,6 +62,7 @@ fn leads(links: &[u64], seen: u64, live: u64) -> paths::Leads
             snapshot: 0,
         };
     }
+    paths::catch_up(links, n, me);
     paths::leading(links, seen)
 }
 
@@ -72,21 +77,25 @@ fn written(keys: &[u64], ranks: u64, live: u64, n: usize) -> u64
     sources::written(keys, ranks, n)
 }
 
-// What the clauses that are still asked for want of the view that holds the commits `seen`; nothing where no commit is lacking.
+// What the clauses that are still asked for want of the view that holds the commits `seen`, before commit `me`; nothing where no commit is lacking.
 pub fn wanted(
     keys: &[u64],
     commits: &[u64],
-    links: &[u64],
+    links: &mut [u64],
     verdicts: &[u64],
     seen: u64,
     ranks: u64,
     n: usize,
+    me: state::CommitNumber,
 ) -> Wanted
-    requires { ⌜ (n ≤ maxKeys) × KeysRoom (now keys) × CommitsRoom (now commits) × LinksRoom (now links) × VerdictsRoom (now verdicts) ⌝ }
+    requires { ⌜ (n ≤ maxKeys) × (me .0 < numbers) × KeysRoom (now keys) × CommitsRoom (now commits) × LinksRoom (now links) × VerdictsRoom (now verdicts) ⌝ }
+    ensures asked { λ r. ⌜ Live (now (verdicts .entry)) (r .live) ⌝ }
     ensures { λ r. ⌜
-        Live (now (verdicts .entry)) (r .live)
-        × ((s : Store) (u : View) (c : Commit) (values : List ℕ) → s .keys ≡ n → SoundStore s → Ordered s → KeepsKeys s (now (keys .entry)) → KeepsCommits s (now (commits .entry)) → KeepsLinks s (now (links .entry)) → KeepsOperations c ranks values → IsSet seen (Holds (history s) (held u)) → Wants s u c r)
+        ((s : Store) (u : View) (c : Commit) (values : List ℕ) → s .keys ≡ n → nextNumber s ≡ me .0 → SoundStore s → Ordered s
+        → KeepsKeys s (now (keys .entry)) → KeepsCommits s (now (commits .entry)) → FollowsLinks s (now (links .entry)) → KeepsOperations c ranks values
+        → IsSet seen (Holds (history s) (held u)) → Wants s u c r)
         ⌝ }
+    ensures kept { λ _. ⌜ ((s : Store) → s .keys ≡ n → nextNumber s ≡ me .0 → FollowsLinks s (now (links .entry)) → FollowsLinks s (now (links .exit))) ⌝ }
 {
     let lacking = sets::without(views::held::all_writers(keys, n), seen);
     if lacking == 0 {
@@ -102,7 +111,7 @@ pub fn wanted(
     }
     let live = table::live(verdicts);
     let past = past(commits, seen, lacking, live);
-    let leads = leads(links, seen, live);
+    let leads = leads(links, seen, live, n, me);
     let written = written(keys, ranks, live, n);
     Wanted {
         live,

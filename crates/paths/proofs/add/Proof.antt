@@ -2,8 +2,9 @@
 use mathlib.Core.Path.{_∙_}
 use native.Mathlib.Omega.{arith}
 use lib.ListN.{length-set}
+use Rattle.state.specs.Places.{notePlace}
 use borrow.Author.Needs.{needs}
-use Rattle.paths.proofs.Added.{added}
+use Rattle.paths.proofs.Added.{added, notes-stay}
 use Rattle.paths.proofs.Kept.{links-added}
 use Rattle.paths.proofs.add.Statement.{statement}
 use Rattle.paths.proofs.add.Tie as tie
@@ -58,8 +59,10 @@ returns c =
     let joining = gathering .before .before in
     let entry = joining .before .before .before in
     let b = gathering .brought .ensures in
-    let g = added _ _ _ _ _ _ (entry .pre .1) (entry .pre .2) (entry .fits .over .fits) _ _ _ (entry .pre .0) _ _ (pointing .point .ensures) (bringing .bring .ensures) _ _ (b .0) (b .1) (later .before .union3 .ensures) (later .union4 .ensures) in
-    links-added _ _ _ _ _ _ _ _ _ (g .0) (joining .before .union .ensures) (joining .union2 .ensures) (g .1) (g .2)
+    let g = added _ _ _ _ _ _ (entry .pre .1) (entry .pre .2) (entry .fits .over .fits) _ _ _ (entry .pre .0) _ _ (pointing .point .ensures) (bringing .bring .ensures) _ _ (b .0) (b .1) (later .before .union3 .ensures) (later .union4 .ensures) in (
+      links-added _ _ _ _ _ _ _ _ _ (g .0) (joining .before .union .ensures) (joining .union2 .ensures) (g .1) (g .2),
+      λ part t. notes-stay _ _ _ _ _ _ (entry .pre .1) (entry .pre .2) (entry .fits .over .fits) _ _ _ (entry .pre .0) _ _ (pointing .point .ensures) (bringing .bring .ensures) (notePlace part t) (omega arith),
+    )
 
 pub add-spec : {M : Type 1} → statement M
 add-spec =

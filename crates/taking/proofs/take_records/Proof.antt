@@ -87,7 +87,7 @@ run-all-requires c κs =
           of-seen = k .in-views .seen-room;
           of-sessions = k .in-sessions .room;
           of-commits = k .in-commits .room;
-          of-links = k .in-links .room;
+          of-links = k .in-links .kept .room;
         },
       ),
     )

@@ -4,10 +4,9 @@ use mathlib.Core.Path.{_≡_, refl}
 use native.Mathlib.Omega.{arith}
 use lib.ListN.{length}
 use Rattle.store.specs.Limits.{maxKeys}
-use Rattle.store.specs.Update.{viewBefore}
 use Rattle.commits.specs.Records.{commitIn}
 use Rattle.shifts.proofs.Refused.{masks-filled}
-use Rattle.commits.proofs.Begun.{operations-read, row-kept, early-given}
+use Rattle.commits.proofs.Begun.{operations-read, row-kept}
 use borrow.Author.Needs.{needs}
 use Rattle.commits.proofs.record.begin.Statement.{statement}
 use Rattle.commits.proofs.record.begin.Tie as tie
@@ -18,9 +17,6 @@ mul-commit-into c = search needs
 commit-into-requires : tie.Need-commit-into-requires
 commit-into-requires c κs = search needs
 
-early-requires : tie.Need-early-requires
-early-requires c κs = search needs
-
 same-length : tie.Need-same-length
 same-length c = search needs
 
@@ -29,31 +25,19 @@ same-length-2 c = search needs
 
 returns : tie.Need-returns
 returns c =
-    let b = c .before .before .before .before .before .before .before .before .before .before .before .before .before .before .before in
-    let a = b .args in
-    let file = a .file .now in
-    let taken = c .before .before .before .before .before .before .commit-into in
+    let taken = c .before .before .before .before .commit-into in
+    let a = c .before .before .before .before .before .before .before .before .before .before .before .args in
     let values = taken .last .1 .1 .1 .1 .1 .1 .0 in
     let fresh = taken .last .1 .1 .1 .1 .1 .1 .1 .0 in
     let long : length values ≡ 2 * maxKeys = omega arith in
     let wide : length fresh ≡ maxKeys = omega arith in
-    λ g clients keys seen commits links r small.
-    let k = commitIn g file (a .at) (a .n) in
-    let o = operations-read (k .operations) (a .n) (r .fits .rising) (taken .result) (a .values .now) values (taken .ensures .0) (taken .ensures .1 .0) k refl long small in
+    λ g clients versions keys seen sessions commits links r small.
+    let k = commitIn g (a .file .now) (a .at) (a .n) in
     record {
-      answer = c .early .ensures (g .store) (viewBefore g k) k
-          (early-given g k clients (a .n) (a .versions .now) keys (a .views .now) seen (a .sessions .now) commits links values (taken .result) r o);
-      operations = o;
-      masks = masks-filled _ _ _ _ fresh wide (row-kept g k clients (a .n) (a .versions .now) keys (a .views .now) seen (a .sessions .now) commits links r) (taken .ensures .1 .1);
+      operations = operations-read (k .operations) (a .n) (r .fits .rising) (taken .result) (a .values .now) values (taken .ensures .0) (taken .ensures .1 .0) k refl long small;
+      masks = masks-filled _ _ _ _ fresh wide (row-kept g k clients (a .n) versions keys (a .views .now) seen sessions commits links r) (taken .ensures .1 .1);
     }
 
 pub begin-spec : {M : Type 1} → statement M
 begin-spec =
-    tie.close
-    (tie.spec
-    mul-commit-into
-    commit-into-requires
-    early-requires
-    same-length
-    same-length-2
-    returns)
+    tie.close (tie.spec mul-commit-into commit-into-requires same-length same-length-2 returns)

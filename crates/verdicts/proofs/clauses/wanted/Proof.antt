@@ -1,6 +1,7 @@
 -- `verdicts::clauses::wanted` meets its contract. Assumes nothing.
 use mathlib.Core.Path.{_≡_}
 use mathlib.Core.Logic.{inl, inr, ⊎-elim}
+use native.Mathlib.Omega.{arith}
 use borrow.Author.Needs.{needs}
 use Rattle.dependencies.specs.History.{Holds}
 use Rattle.store.specs.Store.{Store, View}
@@ -29,8 +30,11 @@ lacking c s u e sound in-keys held-is =
 returns : tie.Need-returns
 returns c = (
   every-clause (c .before .before .before .before .before .before .before .args .verdicts .now),
-  λ s u commit values e sound ordered in-keys in-commits in-links operations held-is.
-      wants-nothing s u commit _ _ (lacking (c .before) s u e sound in-keys held-is) (c .if1 .taken),
+  (
+    λ s u commit values e number sound ordered in-keys in-commits in-links operations held-is.
+        wants-nothing s u commit _ _ (lacking (c .before) s u e sound in-keys held-is) (c .if1 .taken),
+    λ s e number f. f,
+  ),
 )
 
 live-requires : tie.Need-live-requires
@@ -45,28 +49,35 @@ leads-requires c κs = search needs
 written-requires : tie.Need-written-requires
 written-requires c κs = search needs
 
+same-length : tie.Need-same-length
+same-length c = search needs
+
 returns-2 : tie.Need-returns-2
 returns-2 c =
-    let entry = c .before .before .before .before .before .before .before .before .before .before .before in
+    let entry = c .before .before .before .before .before .before .before .before .before .before .before .before .before .before in
     let seen = entry .args .seen in
-    let past = c .before .before .past in
-    let without = c .before .before .before .before .before in (
-      c .before .before .before .live .ensures,
-      λ s u commit values e sound ordered in-keys in-commits in-links operations held-is.
-          let lacks = lacking without s u e sound in-keys held-is in
-          record {
-            lacking = lacks;
-            past = λ a x. ⊎-elim
-                (λ p. inl (
-                  before-is s u seen held-is (entry .args .commits .now) (past .result .first) (entry .fits .seen .fits) in-commits (p .0),
-                  read-is s u seen held-is (entry .args .commits .now) (past .result .second) (entry .fits .seen .fits) in-commits (p .1),
-                ))
-                (λ q. inr (q .0, past-held s u seen held-is sound ordered (without .without .result) lacks (search needs) (search needs) (q .1)))
-                (past .ensures a);
-            written = λ a x. written-is s u seen held-is commit (entry .args .keys .now) (entry .args .ranks) values (entry .args .n) (c .written .result) e sound in-keys operations (c .written .ensures a);
-            prefix = λ a x. leading-is s u seen held-is 0 (c .before .leads .result .prefix) (c .before .leads .ensures (inl a) s in-links .0);
-            snapshot = λ a x. leading-is s u seen held-is 1 (c .before .leads .result .snapshot) (c .before .leads .ensures (inr a) s in-links .1);
-          },
+    let past = c .before .before .before .before .before .past in
+    let led = c .before .before .before .leads in
+    let without = c .before .before .before .before .before .before .before .before in (
+      c .before .before .before .before .before .before .live .ensures,
+      (
+        λ s u commit values e number sound ordered in-keys in-commits in-links operations held-is.
+            let lacks = lacking without s u e sound in-keys held-is in
+            record {
+              lacking = lacks;
+              past = λ a x. ⊎-elim
+                  (λ p. inl (
+                    before-is s u seen held-is (entry .args .commits .now) (past .result .first) (entry .fits .seen .fits) in-commits (p .0),
+                    read-is s u seen held-is (entry .args .commits .now) (past .result .second) (entry .fits .seen .fits) in-commits (p .1),
+                  ))
+                  (λ q. inr (q .0, past-held s u seen held-is sound ordered (without .without .result) lacks (omega (arith, c .before .before .before .before .before .before .before .if1 .left)) (without .without .ok) (q .1)))
+                  (past .ensures a);
+              written = λ a x. written-is s u seen held-is commit (entry .args .keys .now) (entry .args .ranks) values (entry .args .n) (c .written .result) e sound in-keys operations (c .written .ensures a);
+              prefix = λ a x. leading-is s u seen held-is 0 (led .result .prefix) (led .ensures .0 (inl a) s e number in-links .0);
+              snapshot = λ a x. leading-is s u seen held-is 1 (led .result .snapshot) (led .ensures .0 (inr a) s e number in-links .1);
+            },
+        led .ensures .1,
+      ),
     )
 
 pub wanted-spec : {M : Type 1} → statement M
@@ -80,4 +91,5 @@ wanted-spec =
     past-requires
     leads-requires
     written-requires
+    same-length
     returns-2)
