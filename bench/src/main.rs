@@ -18,7 +18,7 @@ use bench::contender::{
 use bench::form::COMMITS;
 use bench::odd::{self, KINDS};
 use bench::traces::{
-    asking, describe, images, in_edition, mean_sizes, timed, Style, Trace, NUMBER,
+    asking, describe, images, in_edition, mean_sizes, timed, touching, Style, Trace, NUMBER,
 };
 use model::bare::ROOM;
 use model::Edition;
@@ -448,6 +448,50 @@ fn print_editions(contenders: &mut [Box<dyn Contender>], keys: usize) {
     }
 }
 
+/// Of 100 keys so many are read, and so many written, by a commit of the traces
+/// that both editions are compared on by how many keys a commit touches.
+const TOUCHING: [usize; 6] = [2, 5, 15, 30, 45, 100];
+
+/// The judge on both editions of serial, snapshot and wild traces, by how many keys
+/// a commit touches.
+fn print_touching(contenders: &mut [Box<dyn Contender>], keys: usize) {
+    println!("\nboth editions, {keys} keys, by how many of 100 a commit reads and writes");
+    print!("{:<8}", "of 100");
+    for contender in contenders.iter() {
+        print!(
+            " | {:<8} {:>7} {:>7} {:>7}",
+            contender.name(),
+            "long",
+            "short",
+            "ratio"
+        );
+    }
+    println!();
+    for share in TOUCHING {
+        let traces = touching(share, NUMBER / 4, keys);
+        let long = in_edition(&traces, Edition::Long);
+        let short = in_edition(&traces, Edition::Short);
+        let tasks = [(&JUDGE, &long[..]), (&JUDGE, &short[..])];
+        for (timed, traces) in tasks {
+            check(contenders, timed, traces);
+        }
+        let times = time_each(contenders, tasks);
+        let all: Vec<usize> = (0..traces.len()).collect();
+        print!("{share:<8}");
+        for which in 0..contenders.len() {
+            let [long, short] = times
+                .each_ref()
+                .map(|times| times[which].of(Way::Least, &all));
+            print!(
+                " | {:<8} {long:>7.2} {short:>7.2} {:>7.2}",
+                "",
+                short / long
+            );
+        }
+        println!();
+    }
+}
+
 /// Images judged by themselves, in the same rounds as the traces that they are of.
 fn print_images(contenders: &mut [Box<dyn Contender>], keys: usize) {
     let mut traces = timed(COMMITS, keys);
@@ -599,6 +643,7 @@ fn main() {
     if asked("--editions") {
         for keys in KEYS {
             print_editions(&mut contenders, keys);
+            print_touching(&mut contenders, keys);
         }
         return;
     }
@@ -626,6 +671,7 @@ fn main() {
     print_odd(&mut contenders);
     for keys in KEYS {
         print_editions(&mut contenders, keys);
+        print_touching(&mut contenders, keys);
     }
     for keys in KEYS {
         print_images(&mut contenders, keys);

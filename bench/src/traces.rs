@@ -134,6 +134,17 @@ pub fn traces(seed: u64, number: usize, commits: usize, keys: usize) -> Vec<Trac
     planned(seed, &Style::MIX, Plan::over(keys), number, commits)
 }
 
+/// So many traces, of the sorts that `traces` has, whose commits read so many of 100
+/// keys, and write as many.
+pub fn touching(share: usize, number: usize, keys: usize) -> Vec<Trace> {
+    let plan = Plan {
+        reads: share,
+        writes: share,
+        ..Plan::over(keys)
+    };
+    planned(4, &Style::MIX, plan, number, COMMITS)
+}
+
 /// Traces by a plan, of these styles in turn.
 pub(crate) fn planned(
     seed: u64,

@@ -106,7 +106,7 @@ uint64_t judge_file(const uint8_t *file, size_t file_length,
                     uint64_t *words, size_t words_length);
 
 #define CONSISTENCY_JUDGE_WORDS 44
-#define CONSISTENCY_JUDGE_STACK 81920
+#define CONSISTENCY_JUDGE_STACK 98304
 
 /* Where the four words of each level begin. A level fails at the first commit that fails one of its clauses, by the lowest of these:
  *
@@ -156,7 +156,7 @@ enum {
 uint64_t plain_file(const uint8_t *file, size_t file_length,
                     uint64_t *words, size_t words_length);
 
-#define CONSISTENCY_PLAIN_STACK 98304
+#define CONSISTENCY_PLAIN_STACK 114688
 
 /* Writes the replay of the trace in the first `file_length` bytes at `file`, if SER accepts the trace: a trace file with the same commits,
  * each after a shift of its client to all that there is, and left with a view of all that there is then. `judge_file` gives the replay the
@@ -173,7 +173,7 @@ uint64_t replay_file(const uint8_t *file, size_t file_length,
                      uint64_t *words, size_t words_length);
 
 #define CONSISTENCY_REPLAY_WORDS 5
-#define CONSISTENCY_REPLAY_STACK 81920
+#define CONSISTENCY_REPLAY_STACK 98304
 
 /* Write the trace in the first `file_length` bytes at `file` in its short edition, where each shift has masks for the keys that change alone and
  * each commit has masks for the keys that have an operation; or in its long edition, where each record has masks for all keys. `judge_file` gives
@@ -194,7 +194,7 @@ uint64_t long_file(const uint8_t *file, size_t file_length,
                    uint64_t *words, size_t words_length);
 
 #define CONSISTENCY_CONVERSION_WORDS 5
-#define CONSISTENCY_CONVERSION_STACK 81920
+#define CONSISTENCY_CONVERSION_STACK 98304
 
 /* Judges the trace file as `judge_file` does and writes the report, text with a line feed at the end of each line and no 0 byte, at the
  * start of `text`. Answers the length of the report. Where `text` has less than CONSISTENCY_LONGEST_REPORT bytes nothing is judged or
@@ -203,7 +203,7 @@ size_t report_file(const uint8_t *file, size_t file_length,
                    uint8_t *image, size_t image_length,
                    uint8_t *text, size_t text_length);
 
-#define CONSISTENCY_REPORT_STACK 81920
+#define CONSISTENCY_REPORT_STACK 98304
 
 /* Judges the image in the first `image_length` bytes at `image`, whose trace need not be there: is there an order of its commits, each made
  * from a view of everything, that gives these versions, writers and readers, with each client's session numbers in order? The views in
@@ -239,7 +239,7 @@ uint64_t visibility_file(const uint8_t *file, size_t file_length,
                          uint64_t *rows, size_t rows_length,
                          uint64_t *words, size_t words_length);
 
-#define CONSISTENCY_VISIBILITY_STACK 81920
+#define CONSISTENCY_VISIBILITY_STACK 98304
 
 /* A trace file that comes in pieces, of any size and cut anywhere, empty ones too. The record stays with the caller, and each call changes it
  * in place; the bytes are kept in a second place, `kept`, which is to have CONSISTENCY_LONGEST_FILE bytes and is lent with each call, the same
@@ -286,7 +286,7 @@ size_t report_session(struct consistency_session *session,
 
 /* For `open_session` and `push_piece`, and for `close_session` and `report_session`. */
 #define CONSISTENCY_PUSH_STACK 4096
-#define CONSISTENCY_CLOSE_STACK 81920
+#define CONSISTENCY_CLOSE_STACK 98304
 
 #ifdef __cplusplus
 }

@@ -17,7 +17,7 @@ pub const CONVERSION_WORDS: usize = 5;
 
 /// [`short`], [`long`], [`short_words`] and [`long_words`] take no more stack,
 /// in bytes.
-pub const CONVERSION_STACK: usize = 81_920;
+pub const CONVERSION_STACK: usize = 98_304;
 
 /// Writes a trace in its short edition: the same records, each shift with masks
 /// for the keys that change alone, each commit with masks for the keys that have

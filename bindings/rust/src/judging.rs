@@ -82,7 +82,7 @@ pub enum Verdict {
 pub const JUDGE_WORDS: usize = 44;
 
 /// [`judge`] and [`judge_words`] take no more stack, in bytes.
-pub const JUDGE_STACK: usize = 81_920;
+pub const JUDGE_STACK: usize = 98_304;
 
 /// Judges one trace file. Where it is judged, the image of its store stands at
 /// the start of `image`; no other byte of `image` changes, and none at all

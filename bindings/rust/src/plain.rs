@@ -4,7 +4,7 @@ use crate::archive::plain_file;
 use crate::judging::{Answer, JUDGE_WORDS};
 
 /// [`plain`] and [`plain_words`] take no more stack, in bytes.
-pub const PLAIN_STACK: usize = 98_304;
+pub const PLAIN_STACK: usize = 114_688;
 
 /// Judges one trace file as [`judge`](crate::judge) does, with the verdicts found by
 /// trying every commit as the next link. No image is written, and no file gets code

@@ -19,7 +19,7 @@ pub const LONGEST_REPLAY: usize = 65_532;
 pub const REPLAY_WORDS: usize = 5;
 
 /// [`replay`] and [`replay_words`] take no more stack, in bytes.
-pub const REPLAY_STACK: usize = 81_920;
+pub const REPLAY_STACK: usize = 98_304;
 
 /// Writes the replay of a trace that SER accepts: a trace file with the same
 /// commits, each after a shift of its client to all that there is, and left

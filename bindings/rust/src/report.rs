@@ -6,7 +6,7 @@ use crate::archive::report_file;
 pub const LONGEST_REPORT: usize = 1_272;
 
 /// [`report`] takes no more stack, in bytes.
-pub const REPORT_STACK: usize = 81_920;
+pub const REPORT_STACK: usize = 98_304;
 
 /// Judges one trace file as [`judge`](crate::judge) does and writes the report,
 /// each line with a line feed at its end, at the start of `text`: answers its

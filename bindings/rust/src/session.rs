@@ -89,7 +89,7 @@ pub struct SessionRecord {
 pub const PUSH_STACK: usize = 4_096;
 
 /// The calls that close take no more stack, in bytes.
-pub const CLOSE_STACK: usize = 81_920;
+pub const CLOSE_STACK: usize = 98_304;
 
 /// Makes the record a new one, whatever it was: open, and nothing has come.
 pub fn open_session(record: &mut SessionRecord) {

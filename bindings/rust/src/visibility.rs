@@ -4,7 +4,7 @@ use crate::archive::visibility_file;
 use crate::judging::{Answer, JUDGE_WORDS};
 
 /// [`visibility`] and [`visibility_words`] take no more stack, in bytes.
-pub const VISIBILITY_STACK: usize = 81_920;
+pub const VISIBILITY_STACK: usize = 98_304;
 
 /// Judges one trace file as [`judge`](crate::judge) does, with the same answer
 /// and the same image, and says which commit is visible to which: the later one's

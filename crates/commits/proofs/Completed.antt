@@ -10,15 +10,15 @@ use lib.Dec.{T}
 use lib.ListN.{getD}
 use Rattle.sets.specs.Set.{Set}
 use Rattle.dependencies.specs.History as D
-use Rattle.store.specs.Limits.{maxKeys, maxClients, maxCommits}
-use Rattle.store.specs.Store.{View, Store, Configuration, Commit, commit}
-use Rattle.store.specs.Update.{step, viewBefore, storeAfter}
+use Rattle.store.specs.Limits.{maxKeys, maxClients}
+use Rattle.store.specs.Store.{View, Store, Configuration, Commit, nextNumber, commit}
+use Rattle.store.specs.Update.{update, step, viewBefore, storeAfter}
 use Rattle.store.specs.Sound as Store
 use Rattle.store.proofs.Legal.{newer-is}
 use Rattle.store.specs.History.{history, held}
 use Rattle.growth.specs.Made.{Made}
 use Rattle.trace.proofs.Fits.{commit-fits}
-use Rattle.state.specs.Keeps.{IsSet, KeepsKeys, KeepsViews, KeepsMasks, KeepsOperations, Keeps}
+use Rattle.state.specs.Keeps.{IsSet, KeepsVersions, KeepsViews, KeepsMasks, Keeps}
 use Rattle.state.specs.Rows.{RowAt}
 use Rattle.views.specs.Own.{AddsOwn}
 use Rattle.verdicts.specs.Wants.{Wants}
@@ -48,13 +48,6 @@ module _ {g : Configuration} {c : Commit} {clients client session : ℕ} {ranks 
 
   holds : IsSet (getD seen client 0) (D.Holds (history (g .store)) (held (viewBefore g c)))
   holds = subst (λ (d : ℕ). IsSet (getD seen client 0) (D.Holds (history (g .store)) (held (g .views d)))) (sym (ready .client-is)) (r .keeps .in-views .holds client below)
-
-  -- what the test of the view after says
-  pub plain-is : (plain : Bool)
-      → ((s : Store) (u : View) (k : Commit) (os : List ℕ) → Made s u k → s .commits < maxCommits → s .keys ≡ n → KeepsKeys s keys → RowAt n views (maxKeys * client) u
-      → KeepsMasks n (k .viewAfter) fresh → KeepsOperations k ranks os → T plain ↔ AddsOwn s u k)
-      → T plain → AddsOwn (g .store) (viewBefore g c) c
-  plain-is plain says = says (g .store) (viewBefore g c) c values made (let x = r .room-left in omega arith) (r .keys-are) (r .keeps .in-keys) row (ready .masks) (ready .operations) .0
 
   -- what is given where the wants of clauses 3 to 8 are gathered, from the arrays before the commit
   pub before-commit : BeforeCommit (g .store) (viewBefore g c) c values versions keys commits links views (maxKeys * client) (getD seen client 0) ranks n me
@@ -89,6 +82,12 @@ module _ {g : Configuration} {c : Commit} {clients client session : ℕ} {ranks 
   }
 
   module _ {versions′ keys′ sessions′ commits′ links′ : List ℕ} (k : MadeIn (storeAfter g c) versions′ keys′ sessions′ commits′ links′) where
+    -- what the first test of the view after says
+    pub plain-is : (plain : Bool)
+        → ((s : Store) (u : View) (e : Commit) → Made s u e → nextNumber s ≡ me → s .keys ≡ n → KeepsVersions (update s u e) versions′ → RowAt n views (maxKeys * client) u → KeepsMasks n (e .viewAfter) fresh → T plain ↔ AddsOwn s u e)
+        → T plain → AddsOwn (g .store) (viewBefore g c) c
+    plain-is plain says = says (g .store) (viewBefore g c) c made (ready .number-is) (r .keys-are) (k .in-versions) row (ready .masks) .0
+
     -- what the test of the view after is given
     pub late-given : LateGiven g c values versions′ keys′ fresh views seen client ranks n me
     late-given = record {

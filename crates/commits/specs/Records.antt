@@ -1,10 +1,9 @@
 -- A commit in a record of the file, and what is given where it is read and made. Assumes nothing.
-use Prim.Native.Nat.{ℕ, _^_, _≤_, _<_}
+use Prim.Native.Nat.{ℕ, _≤_}
 use mathlib.Core.Path.{_≡_}
 use mathlib.Core.Option.{Option, none}
 use mathlib.Core.List.{List}
 use lib.Dec.{T}
-use lib.ListN.{getD}
 use Rattle.search.specs.Choose.{orElse}
 use Rattle.sets.specs.Set.{Set}
 use Rattle.store.specs.Limits.{maxClients, maxCommits}
@@ -17,6 +16,8 @@ use Rattle.growth.specs.Ordered.{Ordered}
 use Rattle.trace.specs.Entry.{commitMeant}
 use Rattle.trace.specs.Format.{operationsAt}
 use Rattle.trace.specs.Meaning.{listingOf}
+use Rattle.trace.specs.Sorted.{SortedAs, ListsBy}
+pub use Rattle.trace.specs.Sorted.{ValuesFit}
 use Rattle.trace.specs.WellFormed.{FitsCommit}
 use Rattle.state.specs.Keeps.{KeepsMasks, KeepsOperations, Keeps}
 use Rattle.shifts.specs.Outcomes.{outcomeOf}
@@ -26,9 +27,9 @@ use Rattle.shifts.specs.declared.Outcome.{Outcome}
 use Rattle.shifts.specs.declared.Outcome.the-variants.{Taken}
 use Rattle.commits.specs.declared.record.CommitAt.{CommitAt}
 
--- every value that the scratch array holds is a u32
-abbrev pub ValuesFit : List ℕ → Type 0
-ValuesFit values = (r : ℕ) → getD values r 0 < 2 ^ 32
+-- its operations are sorted, and where it lists the masks of their keys it is by their ranks
+abbrev pub SortedIn : List ℕ → CommitAt → List ℕ → Type 0
+SortedIn file at values = SortedAs file (at .operations) (at .count) (at .ranks) values × ListsBy file (at .ranks) (at .listing)
 
 -- the commit that is meant by a record whose parts stand at these places of a file
 abbrev pub commitIn : Configuration → List ℕ → CommitAt → ℕ → Commit
@@ -44,11 +45,6 @@ pub record Recorded (g : Configuration) (c : Commit) (clients n : ℕ) (versions
   pub few-clients : clients ≤ maxClients
   pub fits : FitsCommit n clients c
   pub keeps : Keeps g versions keys views seen sessions commits links
-
--- its parts are read
-pub record BegunAs (c : Commit) (ranks : Set) (n : ℕ) (values fresh : List ℕ) : Type 0 where
-  pub operations : KeepsOperations c ranks values
-  pub masks : KeepsMasks n (c .viewAfter) fresh
 
 -- it is ready to be made: its session number is not too small, and its parts are at hand
 pub record Ready (g : Configuration) (c : Commit) (clients client session : ℕ) (ranks : Set) (n me : ℕ)

@@ -13,54 +13,44 @@ ghost use mathlib.Core.Option.{Option};
 ghost use mathlib.Core.List.{List};
 ghost use Rattle.store.specs.Limits.{maxKeys, maxClients, numbers};
 ghost use Rattle.store.specs.Store.{Configuration, Commit, nextNumber, commit};
-ghost use Rattle.trace.specs.Meaning.{OperationsFit, ListingFits};
+ghost use Rattle.trace.specs.Meaning.{ListingFits};
+ghost use Rattle.trace.specs.Sorted.{ListsBy};
 ghost use Rattle.levels.specs.Level.{Level, Failure};
 ghost use Rattle.state.specs.Room.{ViewsRoom, FreshRoom, ValuesRoom, Room};
+ghost use Rattle.state.specs.Keeps.{KeepsMasks};
 ghost use Rattle.verdicts.specs.Verdicts.{VerdictsRoom, KeepsVerdicts};
-ghost use Rattle.commits.specs.Records.{ValuesFit, commitIn, Recorded, BegunAs, Ready, EventDone};
+ghost use Rattle.commits.specs.Records.{ValuesFit, SortedIn, commitIn, Recorded, Ready, EventDone};
 
-// Where the parts of a commit stand in the file, and what it lists of its view after.
+// Where the parts of a commit stand in the file, the ranks of its operations, and what it lists of its view after.
 pub struct CommitAt {
     pub client: usize,
     pub count: usize,
     pub session: u32,
     pub operations: usize,
+    pub ranks: u64,
     pub listing: Listing,
 }
 
-// The masks and operations of the commit are read. Answers the ranks of the operations.
-fn begin(
-    file: &[u8],
-    at: CommitAt,
-    views: &[u64],
-    values: &mut [u64],
-    fresh: &mut [u64],
-    n: usize,
-) -> u64
-    requires { ⌜ (n ≤ maxKeys) × (at .client < maxClients) × ListingFits (now file) n (at .listing) × OperationsFit (now file) n (at .operations) (at .count) ⌝ }
-    requires { ⌜ ViewsRoom (now views) × ValuesRoom (now values) × FreshRoom (now fresh) ⌝ }
-    ensures { λ r. ⌜
+// The masks of the view after the commit are read.
+fn view_after(file: &[u8], at: CommitAt, views: &[u64], fresh: &mut [u64], n: usize)
+    requires { ⌜ (n ≤ maxKeys) × (at .client < maxClients) × ListingFits (now file) n (at .listing) × ListsBy (now file) (at .ranks) (at .listing) × ViewsRoom (now views) × FreshRoom (now fresh) ⌝ }
+    ensures { λ _. ⌜
         ((g : Configuration) (clients : ℕ) (versions keys seen sessions commits links : List ℕ)
         → Recorded g (commitIn g (now (file .entry)) at n) clients n versions keys (now (views .entry)) seen sessions commits links
-        → ValuesFit (now (values .entry))
-        → BegunAs (commitIn g (now (file .entry)) at n) r n (now (values .exit)) (now (fresh .exit)))
+        → KeepsMasks n (commitIn g (now (file .entry)) at n .viewAfter) (now (fresh .exit)))
         ⌝ }
 {
     let client = at.client;
     let listing = at.listing;
-    let operations = at.operations;
-    let count = at.count;
     trace::contents::commit_into(
         file,
-        operations,
-        count,
+        at.ranks,
         listing,
         views,
         state::PER_CLIENT * client,
-        values,
         fresh,
         n,
-    )
+    );
 }
 
 // A commit whose session number is not too small: what those of clauses 3 to 8 want of the view before that a level still asks for is gathered, it is made unless a read is wrong (code 13), its view
@@ -93,7 +83,6 @@ fn complete(
         → EventDone number g fs (commit c) (now (versions .exit)) (now (keys .exit)) (now (views .exit)) (now (seen .exit)) (now (sessions .exit)) (now (commits .exit)) (now (links .exit)) (now (verdicts .exit)) (now (values .entry)) r)
         ⌝ }
 {
-    let plain = views::masks::adds_own(fresh, views, state::PER_CLIENT * client, keys, ranks, n);
     let tried = wanted_by(
         engine,
         versions,
@@ -125,6 +114,7 @@ fn complete(
     if let FoundRead::Sees(k, v) = wrong {
         return Outcome::Refused(Refusal::of_read(number, k, v));
     }
+    let plain = views::masks::adds_own(fresh, views, state::PER_CLIENT * client, versions, n, me);
     late(
         number,
         engine,
@@ -158,20 +148,20 @@ pub fn commit_to(
     commits: &mut [u64],
     links: &mut [u64],
     verdicts: &mut [u64],
-    values: &mut [u64],
+    values: &[u64],
     fresh: &mut [u64],
     n: usize,
     me: CommitNumber,
     engine: Engine,
 ) -> Outcome
-    requires { ⌜ (1 ≤ n) × (n ≤ maxKeys) × (me .0 < numbers) × (at .client < maxClients) × ListingFits (now file) n (at .listing) × OperationsFit (now file) n (at .operations) (at .count) ⌝ }
+    requires { ⌜ (1 ≤ n) × (n ≤ maxKeys) × (me .0 < numbers) × (at .client < maxClients) × ListingFits (now file) n (at .listing) × SortedIn (now file) at (now values) ⌝ }
     requires { ⌜ ValuesRoom (now values) × FreshRoom (now fresh) × VerdictsRoom (now verdicts) ⌝ }
     requires { ⌜ Room (now versions) (now keys) (now views) (now seen) (now sessions) (now commits) (now links) ⌝ }
     ensures { λ r. ⌜
         ((g : Configuration) (clients : ℕ) (fs : Level → Option Failure)
         → Recorded g (commitIn g (now (file .entry)) at n) clients n (now (versions .entry)) (now (keys .entry)) (now (views .entry)) (now (seen .entry)) (now (sessions .entry)) (now (commits .entry)) (now (links .entry))
         → nextNumber (g .store) ≡ me .0 → ValuesFit (now (values .entry)) → KeepsVerdicts fs (now (verdicts .entry))
-        → EventDone number g fs (commit (commitIn g (now (file .entry)) at n)) (now (versions .exit)) (now (keys .exit)) (now (views .exit)) (now (seen .exit)) (now (sessions .exit)) (now (commits .exit)) (now (links .exit)) (now (verdicts .exit)) (now (values .exit)) r)
+        → EventDone number g fs (commit (commitIn g (now (file .entry)) at n)) (now (versions .exit)) (now (keys .exit)) (now (views .exit)) (now (seen .exit)) (now (sessions .exit)) (now (commits .exit)) (now (links .exit)) (now (verdicts .exit)) (now (values .entry)) r)
         ⌝ }
 {
     let client = at.client;
@@ -179,7 +169,8 @@ pub fn commit_to(
     if (session as u64) < sessions[state::BAR + client] {
         return Outcome::Refused(Refusal::of_record(9, number));
     }
-    let ranks = begin(file, at, views, values, fresh, n);
+    let ranks = at.ranks;
+    view_after(file, at, views, fresh, n);
     complete(
         number,
         client,

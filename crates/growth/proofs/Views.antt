@@ -6,7 +6,6 @@ use Prim.Native.Nat.{ℕ, _≤_, _<_}
 use native.Mathlib.Omega.{arith}
 use native.Mathlib.Decide.{decLt}
 use lib.Dec.{T}
-use Rattle.search.proofs.Tests.{T?}
 use Rattle.sets.specs.Set.{has, below}
 use Rattle.sets.proofs.Laws.{has-none, has-below, below-has}
 use Rattle.sets.proofs.Algebra.{full-is}
@@ -17,10 +16,9 @@ use Rattle.store.specs.History.{Wrote, history, held}
 use Rattle.store.proofs.Updated.{count-update, count-written}
 use Rattle.store.specs.View.{IsView, FitsView}
 use Rattle.store.specs.Sound.{SoundStore}
-use Rattle.growth.specs.Made.{Made, WriterOf, Writer, Writes}
+use Rattle.growth.specs.Made.{Made, Writer, Writes}
 use Rattle.growth.proofs.Made.{wrote-after, writer-after, after}
 use Rattle.growth.specs.Ordered.{Ordered}
-use Rattle.growth.proofs.Ordered.{writes-once}
 use Rattle.growth.specs.Views.{Lacking, Full, WithOwn}
 
 -- ---- in one store
@@ -75,39 +73,6 @@ full-view s h v f e = record {
     there : (k i : ℕ) → T (has (v k) i) → Dec (k < s .keys) → i < count s k
     there k i x (yes l) = below-has (count s k) i (subst (λ (y : ℕ). T (has y i)) (e k l) x)
     there k i x (no n) = absurd (has-none i (subst (λ (y : ℕ). T (has y i)) (f .beyond k (omega arith)) x))
-
--- ---- a view v that grows to v′
-
--- v′ holds a version of key k by t that v does not hold
-abbrev pub GainedOf : Store → View → View → Key → CommitNumber → Type 0
-GainedOf s v v′ k t = (i : VersionNumber) × T (has (v′ k) i) × (¬ T (has (v k) i)) × Wrote s t k i
-
--- it holds the commits that it held, and the writers of what it gained
-pub holds-gained : (s : Store) (v v′ : View) → ((k i : ℕ) → T (has (v k) i) → T (has (v′ k) i)) → (t : CommitNumber)
-    → Holds (history s) (held v′) t ↔ (Holds (history s) (held v) t ⊎ ((k : Key) × GainedOf s v v′ k t))
-holds-gained s v v′ grows t = (λ (k, i, h, x). out k i h x (T? (has (v k) i)), back)
-  where
-    out : (k i : ℕ) → T (has (v′ k) i) → Wrote s t k i → Dec (T (has (v k) i))
-        → Holds (history s) (held v) t ⊎ ((k : Key) × GainedOf s v v′ k t)
-    out k i h x (yes y) = inl (k, i, y, x)
-    out k i h x (no n) = inr (k, (i, h, n, x))
-
-    back : Holds (history s) (held v) t ⊎ ((k : Key) × GainedOf s v v′ k t) → Holds (history s) (held v′) t
-    back (inl (k, i, h, x)) = (k, i, grows k i h, x)
-    back (inr (k, (i, h, _, x))) = (k, i, h, x)
-
--- such a view holds all or none of a writer, where v does, exactly where each commit of which it gained a version has gained one of each key that it wrote
-pub whole-gains : (s : Store) → SoundStore s → Ordered s → (v v′ : View) → IsView s v → ((k i : ℕ) → T (has (v k) i) → T (has (v′ k) i))
-    → ((t k i l j : ℕ) → T (has (v′ k) i) → Wrote s t k i → Wrote s t l j → T (has (v′ l) j))
-    ↔ ((t k l : ℕ) → GainedOf s v v′ k t → WriterOf (history s) l t → GainedOf s v v′ l t)
-whole-gains s h o v v′ w grows = (λ f t k l (i, x, n, y) (j, z). (j, f t k i l j x y z, (λ q. n (w .whole t l j k i q z y)), z), λ f t k i l j x y z. back f t k i l j x y z (T? (has (v k) i)))
-  where
-    back : ((t k l : ℕ) → GainedOf s v v′ k t → WriterOf (history s) l t → GainedOf s v v′ l t)
-        → (t k i l j : ℕ) → T (has (v′ k) i) → Wrote s t k i → Wrote s t l j → Dec (T (has (v k) i)) → T (has (v′ l) j)
-    back f t k i l j x y z (yes q) = grows l j (w .whole t k i l j q y z)
-    back f t k i l j x y z (no n) =
-        let g = f t k l (i, x, n, y) (j, z) in
-        subst (λ (a : ℕ). T (has (v′ l) a)) (writes-once s h o t l (g .0) j (g .3) z) (g .1)
 
 -- ---- after a commit
 

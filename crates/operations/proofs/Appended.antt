@@ -2,10 +2,10 @@
 use Prim.Native.Nat.{ℕ, suc, _+_, _-_, _*_, _/_, _%_, _^_, _≤_, _<_}
 use mathlib.Core.Path.{_≡_, refl, sym, ap, _∙_, subst}
 use mathlib.Core.Bool.{Bool, true, false}
-use mathlib.Core.Logic.{_⊎_, inl, inr, _≢_}
+use mathlib.Core.Logic.{_⊎_, inl, inr, ⊎-elim, _≢_, _↔_}
 use mathlib.Core.List.{List, [], _∷_, _++_}
 use native.Mathlib.Omega.{arith}
-use native.Mathlib.Decide.{decLt}
+use native.Mathlib.Decide.{decLt, ℕ-discrete}
 use native.Mathlib.Nat.{mod-eq-of-lt}
 use lib.Dec.{T}
 use lib.Bits.{bitOr, or-shifted-r}
@@ -13,7 +13,7 @@ use lib.Pow.{pow-pos}
 use lib.ListN.{length, getD, set, length-set, length-append, List·getD-append}
 use lib.Seq.{getD-set-same, getD-set-other, getD-append-seam}
 use Rattle.search.specs.Choose.{when}
-use Rattle.search.proofs.Tests.{T?}
+use Rattle.search.proofs.Tests.{T?, both}
 use Rattle.sets.specs.Set.{Set, has, single, below, union, highest, lowest}
 use Rattle.sets.proofs.Laws.{has-highest, single-only}
 use Rattle.sets.proofs.Algebra.{insert-below, single-word}
@@ -22,19 +22,19 @@ use Rattle.store.specs.Store.{Key, VersionNumber, CommitNumber, Value, Version,
 use Rattle.store.specs.Update.{valueOf, writes, newest, append, update}
 use Rattle.store.proofs.Updated.{note-length, append-none}
 use Rattle.growth.specs.Links.{FromWrite}
-use Rattle.state.specs.Places.{perKey, headPlace, readersPlace, fullPlace, writersPlace, packed}
+use Rattle.state.specs.Places.{perKey, numbers, headPlace, readersPlace, ownedPlace, fullPlace, writersPlace, packed}
 use Rattle.state.specs.Room.{VersionsRoom, KeysRoom}
 use Rattle.state.specs.Keeps.{IsSet, KeepsVersions, KeepsKeys}
 use Rattle.state.specs.Accesses.{Left}
-use Rattle.state.proofs.Sets.{isSet-as, isSet-insert}
+use Rattle.state.proofs.Sets.{isSet-as, isSet-union, isSet-single, isSet-insert}
 use Rattle.state.proofs.Ranks.{writes-rank}
 use Rattle.state.proofs.Accesses.{next-key, left-none}
 use Rattle.state.proofs.Below.{From, from-turn, from-passed}
 use Rattle.operations.specs.Given.{Given, Appending}
 use Rattle.operations.specs.PerKey.{writtenAt}
-use Rattle.operations.specs.Change.{freeBit, free, versionAdded, keyGrown, readsNoted, writesAppended}
+use Rattle.operations.specs.Change.{freeBit, free, versionAdded, versionOwned, keyGrown, readsNoted, writesAppended}
 use Rattle.operations.proofs.Noted.{noted-wrote, keys-noted}
-use Rattle.operations.proofs.Rows.{VersionAt, Row, WroteIn, KeyRow, rows-of, of-rows, row-other, key-other, Passed, pass-none, pass-key, pass-skip}
+use Rattle.operations.proofs.Rows.{VersionAt, WroteIn, Row, KeyRow, rows-of, of-rows, row-other, key-other, Passed, pass-none, pass-key, pass-skip}
 
 -- ---- the next version of a key
 
@@ -62,19 +62,70 @@ new x t = record { value = x; writer = t; readers = 0 }
 longer : (vs : List Version) (v : Version) → length (vs ++ (v ∷ [])) ≡ suc (length vs)
 longer vs v = simp length-append (omega arith)
 
-module _ (before : List ℕ) (k : Key) (x : Value) (t : CommitNumber) (vs : List Version) (b : k < maxKeys) (l : length vs ≤ maxCommits) (f : x < 2 ^ 32)
+-- who wrote which version afterwards
+wrote-longer : (vs : List Version) (x : Value) (t a i : ℕ) → (WroteIn vs a i ⊎ ((a ≡ t) × (i ≡ length vs))) ↔ WroteIn (vs ++ (new x t ∷ [])) a i
+wrote-longer vs x t a i = (into, λ w. out w (decLt i (length vs)))
+  where
+    last : getD (vs ++ (new x t ∷ [])) (length vs) openingVersion .writer ≡ t
+    last = ap (λ (v : Version). v .writer) (getD-append-seam vs (new x t) [] openingVersion)
+
+    early : i < length vs → getD (vs ++ (new x t ∷ [])) i openingVersion .writer ≡ getD vs i openingVersion .writer
+    early m = ap (λ (v : Version). v .writer) (List·getD-append vs (new x t ∷ []) openingVersion i m)
+
+    into : WroteIn vs a i ⊎ ((a ≡ t) × (i ≡ length vs)) → WroteIn (vs ++ (new x t ∷ [])) a i
+    into (inl (m, e)) = (omega (arith, longer vs (new x t)), early m ∙ e)
+    into (inr (e, j)) = (omega (arith, longer vs (new x t)), rw j (last ∙ sym e))
+
+    out : WroteIn (vs ++ (new x t ∷ [])) a i → Dec (i < length vs) → WroteIn vs a i ⊎ ((a ≡ t) × (i ≡ length vs))
+    out (m, e) (yes l) = inl (l, sym (early l) ∙ e)
+    out (m, e) (no n) =
+        let j : i ≡ length vs = omega (arith, longer vs (new x t)) in
+        inr (sym e ∙ ap (λ (q : ℕ). getD (vs ++ (new x t ∷ [])) q openingVersion .writer) j ∙ last, j)
+
+module _ (before : List ℕ) (k : Key) (x : Value) (t : CommitNumber) (vs : List Version) (b : k < maxKeys) (c : t < numbers) (l : length vs ≤ maxCommits) (f : x < 2 ^ 32)
     (r : Row before k vs) where
   abbrev at : ℕ
   at = headPlace k (length vs)
 
-  version-added : Row (versionAdded before at (packed x t)) k (vs ++ (new x t ∷ []))
+  abbrev added : List ℕ
+  added = versionAdded before at (packed x t)
+
+  abbrev own : ℕ
+  own = ownedPlace t k
+
+  abbrev mine : Set
+  mine = union (getD added own 0) (single (length vs))
+
+  long : length added ≡ length before
+  long = length-set (set before at (packed x t)) _ 0 ∙ length-set before at _
+
+  -- a place among the rows of the commits is left alone by the version itself
+  owned-stays : (a : ℕ) → a < numbers → getD added (ownedPlace a k) 0 ≡ getD before (ownedPlace a k) 0
+  owned-stays a m = getD-set-other (set before at (packed x t)) (readersPlace k (length vs)) (ownedPlace a k) 0 0 (λ q. omega arith) ∙ getD-set-other before at (ownedPlace a k) _ 0 (λ q. omega arith)
+
+  version-added : Row (versionOwned added own (single (length vs))) k (vs ++ (new x t ∷ []))
   version-added = record {
-    room = length-set (set before at (packed x t)) _ 0 ∙ length-set before at _ ∙ r .room;
+    room = length-set added own mine ∙ long ∙ r .room;
     few = omega (arith, longer vs (new x t));
-    each = λ i m. go i (decLt i (length vs)) (omega (arith, longer vs (new x t)));
+    each = λ i m. let v = go i (decLt i (length vs)) (omega (arith, longer vs (new x t))) in
+        record {
+          head = getD-set-other added own (headPlace k i) mine 0 (λ q. omega (arith, longer vs (new x t))) ∙ v .head;
+          readers = getD-set-other added own (readersPlace k i) mine 0 (λ q. omega (arith, longer vs (new x t))) ∙ v .readers;
+          fits = v .fits;
+        };
+    owned = λ a p m. whose a p m (ℕ-discrete a t);
   }
     where
-      go : (i : ℕ) → Dec (i < length vs) → i ≤ length vs → VersionAt (versionAdded before at (packed x t)) k i (getD (vs ++ (new x t ∷ [])) i openingVersion)
+      whose : (a : ℕ) → 0 < a → a < numbers → Dec (a ≡ t) → IsSet (getD (versionOwned added own (single (length vs))) (ownedPlace a k) 0) (WroteIn (vs ++ (new x t ∷ [])) a)
+      whose a p m (yes e) = rw (e, getD-set-same added own mine 0 (omega (arith, long, r .room)), owned-stays t c)
+          (isSet-as _ (λ i. both (part i) (wrote-longer vs x t t i)) (isSet-union (getD before own 0) (single (length vs)) (r .owned t (omega arith) c) (isSet-single (length vs))))
+        where
+          part : (i : ℕ) → (WroteIn vs t i ⊎ (i ≡ length vs)) ↔ (WroteIn vs t i ⊎ ((t ≡ t) × (i ≡ length vs)))
+          part i = (⊎-elim inl (λ j. inr (refl, j)), ⊎-elim inl (λ (_, j). inr j))
+      whose a p m (no n) = rw (getD-set-other added own (ownedPlace a k) mine 0 (λ q. n (omega arith)), owned-stays a m)
+          (isSet-as _ (λ i. both (inl, ⊎-elim (λ w. w) (λ (e, _). absurd (n e))) (wrote-longer vs x t a i)) (r .owned a p m))
+
+      go : (i : ℕ) → Dec (i < length vs) → i ≤ length vs → VersionAt added k i (getD (vs ++ (new x t ∷ [])) i openingVersion)
       go i (yes m) _ = let o = r .each i m in
           rw (List·getD-append vs (new x t ∷ []) openingVersion i m) record {
             head = getD-set-other (set before at (packed x t)) (readersPlace k (length vs)) (headPlace k i) 0 0 (λ q. omega arith) ∙ getD-set-other before at (headPlace k i) _ 0 (λ q. omega arith) ∙ o .head;
@@ -99,26 +150,24 @@ module _ (before : List ℕ) (k : Key) (x : Value) (t : CommitNumber) (vs : List
         ∙ ap (λ (m : ℕ). union m (single (length vs))) (r .full) ∙ union-below (length vs) ∙ ap below (sym (longer vs (new x t)));
     writers = subst (λ (m : ℕ). IsSet m (λ a. (i : ℕ) × WroteIn (vs ++ (new x t ∷ [])) a i))
         (sym (getD-set-same mid (writersPlace k) _ 0 (omega (arith, length-set before (fullPlace k) (union (getD before (fullPlace k) 0) (single (length vs))), r .room))))
-        (isSet-as _ (λ a. (into a, λ (i, w). out a i w (decLt i (length vs)))) (isSet-insert t (getD before (writersPlace k) 0) (r .writers)));
+        (isSet-as _ (λ a. (into a, out a)) (isSet-insert t (getD before (writersPlace k) 0) (r .writers)));
   }
     where
       into : (a : ℕ) → (a ≡ t) ⊎ ((i : ℕ) × WroteIn vs a i) → (i : ℕ) × WroteIn (vs ++ (new x t ∷ [])) a i
-      into a (inl e) = (length vs, (omega (arith, longer vs (new x t)), ap (λ (v : Version). v .writer) (getD-append-seam vs (new x t) [] openingVersion) ∙ sym e))
-      into a (inr (i, (m, e))) = (i, (omega (arith, longer vs (new x t)), ap (λ (v : Version). v .writer) (List·getD-append vs (new x t ∷ []) openingVersion i m) ∙ e))
+      into a (inl e) = (length vs, wrote-longer vs x t a (length vs) .0 (inr (e, refl)))
+      into a (inr (i, w)) = (i, wrote-longer vs x t a i .0 (inl w))
 
-      out : (a i : ℕ) → WroteIn (vs ++ (new x t ∷ [])) a i → Dec (i < length vs) → (a ≡ t) ⊎ ((i : ℕ) × WroteIn vs a i)
-      out a i (m, e) (yes l) = inr (i, (l, sym (ap (λ (v : Version). v .writer) (List·getD-append vs (new x t ∷ []) openingVersion i l)) ∙ e))
-      out a i (m, e) (no n) =
-          let q : i ≡ length vs = omega (arith, longer vs (new x t)) in
-          inl (sym e ∙ ap (λ (j : ℕ). getD (vs ++ (new x t ∷ [])) j openingVersion .writer) q ∙ ap (λ (v : Version). v .writer) (getD-append-seam vs (new x t) [] openingVersion))
+      out : (a : ℕ) → ((i : ℕ) × WroteIn (vs ++ (new x t ∷ [])) a i) → (a ≡ t) ⊎ ((i : ℕ) × WroteIn vs a i)
+      out a (i, w) = ⊎-elim (λ v. inr (i, v)) (λ (e, _). inl e) (wrote-longer vs x t a i .1 w)
 
 -- ---- the other keys stay
 
 module _ (before : List ℕ) (k : Key) (b : k < maxKeys) (t : CommitNumber) (q : Key) (n : q ≢ k) (m : q < maxKeys) (vs : List Version) where
-  appended-other : (x : Value) (i : VersionNumber) → i < perKey → Row before q vs → Row (versionAdded before (headPlace k i) (packed x t)) q vs
-  appended-other x i l r =
-      row-other (set before (headPlace k i) (packed x t)) (readersPlace k i) 0 q (λ j o. (λ e. omega arith, λ e. n (omega arith)))
-      (row-other before (headPlace k i) (packed x t) q (λ j o. (λ e. n (omega arith), λ e. omega arith)) r)
+  appended-other : (x : Value) (i : VersionNumber) → i < perKey → (bit : Set) → Row before q vs → Row (versionOwned (versionAdded before (headPlace k i) (packed x t)) (ownedPlace t k) bit) q vs
+  appended-other x i l bit r =
+      row-other (versionAdded before (headPlace k i) (packed x t)) (ownedPlace t k) _ q (λ j o. (λ e. omega arith, λ e. omega arith)) (λ a o e. n (omega arith))
+      (row-other (set before (headPlace k i) (packed x t)) (readersPlace k i) 0 q (λ j o. (λ e. omega arith, λ e. n (omega arith))) (λ a o e. omega arith)
+      (row-other before (headPlace k i) (packed x t) q (λ j o. (λ e. n (omega arith), λ e. omega arith)) (λ a o e. omega arith) r))
 
   grown-other : (bit : Set) → KeyRow before q vs → KeyRow (keyGrown before k bit t) q vs
   grown-other bit r =
@@ -147,7 +196,7 @@ pub record WritesPassed (s : Store) (c : Commit) (t : CommitNumber) (n k : ℕ) 
 module _ {s : Store} {c : Commit} {versions keys values : List ℕ} {ranks n : ℕ} (g : Appending s c versions keys values ranks n) (t : CommitNumber) where
   pub no-writes : WritesPassed s c t n 0 versions keys
   no-writes = record {
-    in-versions = pass-none Row (s .versions) (writesAppended s c t .versions) n versions (λ q l. rows-of (g .in-versions) (λ k. omega (arith, g .room-left k)) q);
+    in-versions = pass-none Row (s .versions) (writesAppended s c t .versions) n versions (λ q l. rows-of (g .in-versions) (λ k. omega (arith, g .room-left k)) q (omega (arith, g .keys-are)));
     in-keys = pass-none KeyRow (s .versions) (writesAppended s c t .versions) n keys (λ q l. record {
       room = g .in-keys .room;
       full = g .in-keys .full q (omega (arith, g .keys-are));
@@ -201,13 +250,13 @@ module _ {s : Store} {c : Commit} {versions keys values : List ℕ} {ranks n : �
         from-turn (writtenAt s c) found y b (λ j a o. unwritten j (none j a o)) _
         (isSet-as _ (λ a. (λ z. (subst T (sym (writes-rank (g .operations) q)) r, z), λ (_, z). z)) (here .writers)) e
 
-    pub write-appended : {vs′ ks′ : List ℕ} → vs′ ≡ versionAdded vs (headPlace q (free ks q)) (bitOr x (t * 2 ^ 32)) → ks′ ≡ keyGrown ks q (freeBit ks q) t
+    pub write-appended : {vs′ ks′ : List ℕ} → t < numbers → vs′ ≡ versionOwned (versionAdded vs (headPlace q (free ks q)) (bitOr x (t * 2 ^ 32))) (ownedPlace t q) (freeBit ks q) → ks′ ≡ keyGrown ks q (freeBit ks q) t
         → WritesPassed s c t n (q + 1) vs′ ks′
-    write-appended e z = record {
-      in-versions = subst (λ (a : List ℕ). Passed Row (s .versions) (writesAppended s c t .versions) n (q + 1) a) (sym (rw (number, packed-or x t f) at e))
+    write-appended c′ e z = record {
+      in-versions = subst (λ (a : List ℕ). Passed Row (s .versions) (writesAppended s c t .versions) n (q + 1) a) (sym (rw (number, packed-or x t f, bit) at e))
           (pass-key Row (s .versions) (writesAppended s c t .versions) n q vs _ l (before .in-versions)
-          (λ j m o w. appended-other vs q (omega (arith, l)) t j m (omega arith) w x (count s q) (omega (arith, g .room-left q)))
-          (λ r. rw grows (version-added vs q x t (s .versions q) (omega (arith, l)) (g .room-left q) f r)));
+          (λ j m o w. appended-other vs q (omega (arith, l)) t j m (omega arith) w x (count s q) (omega (arith, g .room-left q)) (single (count s q)))
+          (λ r. rw grows (version-added vs q x t (s .versions q) (omega (arith, l)) c′ (g .room-left q) f r)));
       in-keys = subst (λ (a : List ℕ). Passed KeyRow (s .versions) (writesAppended s c t .versions) n (q + 1) a) (sym (rw bit at z))
           (pass-key KeyRow (s .versions) (writesAppended s c t .versions) n q ks _ l (before .in-keys)
           (λ j m o w. grown-other ks q (omega (arith, l)) t j m (omega arith) w (single (count s q)))
@@ -231,7 +280,7 @@ module _ {s : Store} {c : Commit} {versions keys values : List ℕ} {ranks n : �
       → WritesPassed s c t n k vs ks → KeepsVersions (writesAppended s c t) vs × KeepsKeys (writesAppended s c t) ks
   writes-appended {k} h vs ks l e room room′ p =
       let w : WritesPassed s c t n n vs ks = skipped k n vs ks l (omega arith) (λ j x y. left-none h e j x y) p in (
-        of-rows (writesAppended s c t) vs n room only-old (λ q m. w .in-versions .done q m),
+        of-rows (writesAppended s c t) vs n (g .keys-are) room only-old (λ q m. w .in-versions .done q m),
         record {
           room = room′;
           full = λ q m. w .in-keys .done q (omega (arith, g .keys-are)) .full;
@@ -269,6 +318,6 @@ module _ {s : Store} {u : View} {c : Commit} {versions views : List ℕ} {base :
   unfolding update
   performed e vs ks h =
       let (v, k) : KeepsVersions (writesAppended (readsNoted s u c (nextNumber s)) c (nextNumber s)) vs × KeepsKeys (writesAppended (readsNoted s u c (nextNumber s)) c (nextNumber s)) ks = rw e at h in (
-        record { room = v .room; heads = v .heads; readers = v .readers; value-fits = v .value-fits },
+        record { room = v .room; heads = v .heads; readers = v .readers; value-fits = v .value-fits; owned = v .owned },
         record { room = k .room; full = k .full; writers = k .writers },
       )

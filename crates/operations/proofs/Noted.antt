@@ -16,17 +16,17 @@ use Rattle.store.specs.Store.{Key, VersionNumber, CommitNumber, Value, Version,
 use Rattle.store.specs.Update.{valueOf, newest, newestVisible, readBy, noteRead}
 use Rattle.store.specs.History.{Wrote}
 use Rattle.store.proofs.Updated.{note-length, note-writer}
-use Rattle.state.specs.Places.{perKey, headPlace, readersPlace}
+use Rattle.state.specs.Places.{perKey, headPlace, readersPlace, ownedPlace}
 use Rattle.state.specs.Lookup.{visibleIn}
 use Rattle.state.specs.Room.{VersionsRoom}
-use Rattle.state.specs.Keeps.{KeepsVersions, KeepsKeys}
+use Rattle.state.specs.Keeps.{IsSet, KeepsVersions, KeepsKeys}
 use Rattle.state.specs.Accesses.{Left}
 use Rattle.state.proofs.Sets.{isSet-as}
 use Rattle.state.proofs.Accesses.{next-key, left-none}
 use Rattle.operations.specs.Given.{Given}
 use Rattle.operations.specs.Change.{readerAdded, readsNoted}
 use Rattle.operations.proofs.Reading.{seen-exists, seen-is}
-use Rattle.operations.proofs.Rows.{VersionAt, Row, rows-of, of-rows, row-other, Passed, pass-none, pass-key, pass-skip}
+use Rattle.operations.proofs.Rows.{VersionAt, WroteIn, Row, rows-of, of-rows, row-other, Passed, pass-none, pass-key, pass-skip}
 
 -- one version of a key gains a reader
 module _ (before : List ℕ) (k : Key) (v : VersionNumber) (t : CommitNumber) (vs : List Version) (b : k < maxKeys) (l : v < length vs) (r : Row before k vs) where
@@ -38,8 +38,21 @@ module _ (before : List ℕ) (k : Key) (v : VersionNumber) (t : CommitNumber) (v
     room = length-set before place _ ∙ r .room;
     few = omega (arith, length-set vs v (readBy t (getD vs v openingVersion)), r .few);
     each = λ i m. go i (omega (arith, length-set vs v (readBy t (getD vs v openingVersion)))) (ℕ-discrete i v);
+    owned = λ a p m. let f = r .few in
+        subst (λ (w : ℕ). IsSet w (WroteIn read a)) (sym (getD-set-other before place (ownedPlace a k) _ 0 (λ q. omega arith)))
+        (isSet-as _ (λ i. (λ (o, e). (omega (arith, long), writer i (ℕ-discrete i v) ∙ e), λ (o, e). (omega (arith, long), sym (writer i (ℕ-discrete i v)) ∙ e))) (r .owned a p m));
   }
     where
+      read : List Version
+      read = set vs v (readBy t (getD vs v openingVersion))
+
+      long : length read ≡ length vs
+      long = length-set vs v (readBy t (getD vs v openingVersion))
+
+      writer : (i : ℕ) → Dec (i ≡ v) → getD read i openingVersion .writer ≡ getD vs i openingVersion .writer
+      writer i (yes e) = rw (e, getD-set-same vs v (readBy t (getD vs v openingVersion)) openingVersion l)
+      writer i (no n) = ap (λ (x : Version). x .writer) (getD-set-other vs v i (readBy t (getD vs v openingVersion)) openingVersion n)
+
       go : (i : ℕ) → i < length vs → Dec (i ≡ v) → VersionAt (readerAdded before place t) k i (getD (set vs v (readBy t (getD vs v openingVersion))) i openingVersion)
       go i m (yes e) =
           let o = r .each v l in
@@ -60,7 +73,7 @@ module _ (before : List ℕ) (k : Key) (v : VersionNumber) (t : CommitNumber) (v
 
 noted-other : (before : List ℕ) (k : Key) (v : VersionNumber) (t : CommitNumber) → k < maxKeys → v < perKey
     → (q : Key) → q ≢ k → q < maxKeys → (vs : List Version) → Row before q vs → Row (readerAdded before (readersPlace k v) t) q vs
-noted-other before k v t b l q n m vs r = row-other before (readersPlace k v) _ q (λ i o. (λ e. omega arith, λ e. n (omega arith))) r
+noted-other before k v t b l q n m vs r = row-other before (readersPlace k v) _ q (λ i o. (λ e. omega arith, λ e. n (omega arith))) (λ a o e. omega arith) r
 
 -- where the key is read, and where it is not
 noted-read : (b : Bool) → T b → (x : Value) (v : VersionNumber) (t : CommitNumber) (vs : List Version) → noteRead (when b x) v t vs ≡ set vs v (readBy t (getD vs v openingVersion))
@@ -84,7 +97,7 @@ module _ {s : Store} {u : View} {c : Commit} {versions views : List ℕ} {base :
   pub no-reads : ReadsPassed s u c t n 0 versions
   no-reads =
       pass-none Row (s .versions) (readsNoted s u c t .versions) n versions
-      (λ q l. rows-of (g .in-versions) (λ k. omega (arith, g .sound .few k, g .room-left)) q)
+      (λ q l. rows-of (g .in-versions) (λ k. omega (arith, g .sound .few k, g .room-left)) q (omega (arith, g .keys-are)))
 
   -- keys that are not read are passed at once
   skipped : (k q : ℕ) (a : List ℕ) → k ≤ q → q ≤ n → ((j : ℕ) → k ≤ j → j < q → ¬ T (has ranks (2 * j))) → ReadsPassed s u c t n k a → ReadsPassed s u c t n q a
@@ -113,7 +126,7 @@ module _ {s : Store} {u : View} {c : Commit} {versions views : List ℕ} {base :
 
     pub reads-noted : (a : List ℕ) → k ≤ n → left ≡ 0 → VersionsRoom a → ReadsPassed s u c t n k a → KeepsVersions (readsNoted s u c t) a
     reads-noted a l e room p =
-        of-rows (readsNoted s u c t) a n room
+        of-rows (readsNoted s u c t) a n (g .keys-are) room
         (λ q i m. omega (arith, g .sound .only-keys q i (rw (note-length (valueOf read (c .operations) q) (newest u q) t (s .versions q)) at m), g .keys-are))
         (λ q m. skipped k n a l (omega arith) (λ j x y. left-none h e j x y) p .done q m)
 

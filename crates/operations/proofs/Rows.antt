@@ -9,7 +9,7 @@ use lib.ListN.{length, getD, set, length-set}
 use lib.Seq.{getD-set-other}
 use Rattle.sets.specs.Set.{below}
 use Rattle.store.specs.Store.{Key, VersionNumber, CommitNumber, Version, openingVersion, Store, count}
-use Rattle.state.specs.Places.{perKey, headPlace, readersPlace, fullPlace, writersPlace, packed}
+use Rattle.state.specs.Places.{perKey, numbers, headPlace, readersPlace, ownedPlace, fullPlace, writersPlace, packed}
 use Rattle.state.specs.Room.{VersionsRoom, KeysRoom}
 use Rattle.state.specs.Keeps.{IsSet, KeepsVersions}
 
@@ -21,15 +21,16 @@ pub record VersionAt (versions : List ℕ) (k : Key) (i : VersionNumber) (v : Ve
   pub readers : getD versions (readersPlace k i) 0 ≡ v .readers
   pub fits : v .value < 2 ^ 32
 
+-- t wrote version i of these
+abbrev pub WroteIn : List Version → CommitNumber → VersionNumber → Type 0
+WroteIn vs t i = (i < length vs) × (getD vs i openingVersion .writer ≡ t)
+
 -- the versions of a key
 pub record Row (versions : List ℕ) (k : Key) (vs : List Version) : Type 0 where
   pub room : VersionsRoom versions
   pub few : length vs ≤ perKey
   pub each : (i : ℕ) → i < length vs → VersionAt versions k i (getD vs i openingVersion)
-
--- t wrote version i of these
-abbrev pub WroteIn : List Version → CommitNumber → VersionNumber → Type 0
-WroteIn vs t i = (i < length vs) × (getD vs i openingVersion .writer ≡ t)
+  pub owned : (t : CommitNumber) → 0 < t → t < numbers → IsSet (getD versions (ownedPlace t k) 0) (WroteIn vs t)
 
 -- the full mask and the writers of a key
 pub record KeyRow (keys : List ℕ) (k : Key) (vs : List Version) : Type 0 where
@@ -38,27 +39,30 @@ pub record KeyRow (keys : List ℕ) (k : Key) (vs : List Version) : Type 0 where
   pub writers : IsSet (getD keys (writersPlace k) 0) (λ t. (i : ℕ) × WroteIn vs t i)
 
 -- a store that the arrays keep, key by key
-pub rows-of : {s : Store} {versions : List ℕ} → KeepsVersions s versions → ((k : Key) → count s k ≤ perKey) → (k : Key) → Row versions k (s .versions k)
-rows-of h few k = record {
+pub rows-of : {s : Store} {versions : List ℕ} → KeepsVersions s versions → ((k : Key) → count s k ≤ perKey) → (k : Key) → k < s .keys → Row versions k (s .versions k)
+rows-of h few k b = record {
   room = h .room;
   few = few k;
   each = λ i l. record { head = h .heads k i l; readers = h .readers k i l; fits = h .value-fits k i l };
+  owned = λ t p m. h .owned t p m k b;
 }
 
-pub of-rows : (s : Store) (versions : List ℕ) (n : ℕ) → VersionsRoom versions → ((k i : ℕ) → i < count s k → k < n)
+pub of-rows : (s : Store) (versions : List ℕ) (n : ℕ) → s .keys ≡ n → VersionsRoom versions → ((k i : ℕ) → i < count s k → k < n)
     → ((k : Key) → k < n → Row versions k (s .versions k)) → KeepsVersions s versions
-of-rows s versions n room only h = record {
+of-rows s versions n e room only h = record {
   room = room;
   heads = λ k i l. h k (only k i l) .each i l .head;
   readers = λ k i l. h k (only k i l) .each i l .readers;
   value-fits = λ k i l. h k (only k i l) .each i l .fits;
+  owned = λ t p m k l. h k (omega (arith, e)) .owned t p m;
 }
 
 -- ---- a store into an array leaves the other keys alone
 
 module _ (before : List ℕ) (p x : ℕ) (q : Key) where
-  pub row-other : {vs : List Version} → ((i : ℕ) → i < perKey → (headPlace q i ≢ p) × (readersPlace q i ≢ p)) → Row before q vs → Row (set before p x) q vs
-  row-other {vs} apart r = record {
+  pub row-other : {vs : List Version} → ((i : ℕ) → i < perKey → (headPlace q i ≢ p) × (readersPlace q i ≢ p)) → ((t : ℕ) → t < numbers → ownedPlace t q ≢ p)
+      → Row before q vs → Row (set before p x) q vs
+  row-other {vs} apart apart′ r = record {
     room = length-set before p x ∙ r .room;
     few = r .few;
     each = λ i l.
@@ -69,6 +73,7 @@ module _ (before : List ℕ) (p x : ℕ) (q : Key) where
           readers = getD-set-other before p (readersPlace q i) x 0 (n .1) ∙ v .readers;
           fits = v .fits;
         };
+    owned = λ t m b. subst (λ (w : ℕ). IsSet w (WroteIn vs t)) (sym (getD-set-other before p (ownedPlace t q) x 0 (apart′ t b))) (r .owned t m b);
   }
 
   pub key-other : {vs : List Version} → fullPlace q ≢ p → writersPlace q ≢ p → KeyRow before q vs → KeyRow (set before p x) q vs

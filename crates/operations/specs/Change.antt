@@ -19,6 +19,10 @@ readerAdded versions at t = set versions at (insert t (getD versions at 0))
 abbrev pub versionAdded : List ℕ → ℕ → ℕ → List ℕ
 versionAdded versions at head = set (set versions at head) (perKey * maxKeys + at) 0
 
+-- a version more in the set at a place
+abbrev pub versionOwned : List ℕ → ℕ → Set → List ℕ
+versionOwned versions at bit = set versions at (union (getD versions at 0) bit)
+
 -- the bit of the next version of a key, as a set: one more than the mask of all versions; and its number
 abbrev pub freeBit : List ℕ → Key → Set
 freeBit keys k = (getD keys (fullPlace k) 0 + 1) % 2 ^ 64

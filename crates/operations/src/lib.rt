@@ -10,12 +10,12 @@ ghost use Prim.Native.Nat.{_+_, _*_, _^_, _<_, _≤_};
 ghost use lib.Bits.{bitOr};
 ghost use Rattle.store.specs.Limits.{maxKeys, numbers, perKey};
 ghost use Rattle.store.specs.Store.{View, Store, Commit};
-ghost use Rattle.state.specs.Places.{headPlace, readersPlace, viewsLength};
+ghost use Rattle.state.specs.Places.{headPlace, readersPlace, ownedPlace, viewsLength};
 ghost use Rattle.growth.specs.Links.{FromWrite};
 ghost use Rattle.state.specs.Room.{VersionsRoom, KeysRoom, ViewsRoom, ValuesRoom};
 ghost use Rattle.state.specs.Keeps.{IsSet, KeepsVersions, KeepsKeys};
 ghost use Rattle.operations.specs.Given.{Given, Appending};
-ghost use Rattle.operations.specs.Change.{freeBit, free, readerAdded, versionAdded, keyGrown, writesAppended};
+ghost use Rattle.operations.specs.Change.{freeBit, free, readerAdded, versionAdded, versionOwned, keyGrown, writesAppended};
 ghost use Rattle.operations.specs.Answers.{ReadsSay, LinkedSays};
 
 // The two accesses, by their place in a rank.
@@ -95,6 +95,15 @@ fn put_version(versions: &mut [u64], at: usize, head: u64)
     versions[state::READERS + at] = 0;
 }
 
+// The new version's bit added to what `me` wrote of key k.
+fn own_version(versions: &mut [u64], k: Key, bit: u64, me: CommitNumber)
+    requires { ⌜ VersionsRoom (now versions) × (k .0 < maxKeys) × (me .0 < numbers) ⌝ }
+    ensures { λ _. ⌜ now (versions .exit) ≡ versionOwned (now (versions .entry)) (ownedPlace (me .0) (k .0)) bit ⌝ }
+{
+    let at = state::OWNED + (state::PER_COMMIT * me.0 + k.0);
+    versions[at] = sets::union(versions[at], bit);
+}
+
 // The new version's bit added to the full mask of key k, and `me` to its writers.
 fn grow_key(keys: &mut [u64], k: Key, bit: u64, me: CommitNumber)
     requires { ⌜ KeysRoom (now keys) × (k .0 < maxKeys) × (me .0 < numbers) ⌝ }
@@ -111,13 +120,14 @@ fn grow_key(keys: &mut [u64], k: Key, bit: u64, me: CommitNumber)
 // there are as many as a key can have, which is so in no store with room for a commit.
 fn append_at(versions: &mut [u64], keys: &mut [u64], value: u64, k: Key, me: CommitNumber)
     requires { ⌜ VersionsRoom (now versions) × KeysRoom (now keys) × (k .0 < maxKeys) × (me .0 < numbers) ⌝ }
-    ensures { λ _. ⌜ (now (versions .exit) ≡ versionAdded (now (versions .entry)) (headPlace (k .0) (free (now (keys .entry)) (k .0))) (bitOr value (me .0 * 2 ^ 32)))
+    ensures { λ _. ⌜ (now (versions .exit) ≡ versionOwned (versionAdded (now (versions .entry)) (headPlace (k .0) (free (now (keys .entry)) (k .0))) (bitOr value (me .0 * 2 ^ 32))) (ownedPlace (me .0) (k .0)) (freeBit (now (keys .entry)) (k .0)))
         × (now (keys .exit) ≡ keyGrown (now (keys .entry)) (k .0) (freeBit (now (keys .entry)) (k .0)) (me .0)) ⌝ }
 {
     let i = k.0;
     let bit = std::num::wrapping_add_u64(keys[i], 1);
     let at = state::PER_KEY * i + state::newest(bit).0;
     put_version(versions, at, head_of(value, me));
+    own_version(versions, k, bit, me);
     grow_key(keys, k, bit, me);
 }
 

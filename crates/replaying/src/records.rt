@@ -81,7 +81,7 @@ fn write_commit(
         at (now (buffer .entry)) (now (buffer .exit)) (now (full .exit))) ⌝ }
 {
     let next = writing::put_shift(buffer, at, client, full, 0, n);
-    let ranks = trace::contents::sort_operations(file, operations, count, values);
+    let ranks = trace::contents::sort_operations(file, operations, n, count, values);
     view::grow(full, ranks, n);
     writing::put_commit(
         buffer,

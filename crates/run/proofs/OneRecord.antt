@@ -14,6 +14,7 @@ use Rattle.trace.specs.Entry.{viewMeant, event}
 use Rattle.trace.specs.Format.{Header, commitsWith}
 use Rattle.trace.specs.Meaning.{listingOf, entryOf, readingOf, PlacesFit, RecordSays}
 use Rattle.trace.proofs.Decoded.{ReadAt, record-read}
+use Rattle.trace.specs.Sorted.{RecordSorted}
 use Rattle.trace.specs.WellFormed.{FitsEvent}
 use Rattle.trace.proofs.Entries.{sound-fits, opening-fits}
 use Rattle.trace.specs.declared.records.Listing.{Listing}
@@ -27,7 +28,7 @@ use Rattle.shifts.specs.declared.Outcome.{Outcome}
 use Rattle.shifts.specs.declared.Outcome.the-variants.{Taken}
 use Rattle.shifts.specs.Outcomes.{outcomeOf, ShiftGiven}
 use Rattle.commits.specs.declared.record.CommitAt.{CommitAt}
-use Rattle.commits.specs.Records.{ValuesFit, commitIn, Recorded, EventDone}
+use Rattle.commits.specs.Records.{ValuesFit, SortedIn, commitIn, Recorded, EventDone}
 use Rattle.run.specs.OneRecord.{Readable, Standing, Fitting}
 
 -- ---- the record as it was read
@@ -110,6 +111,11 @@ module _ (file : List ℕ) (n : ℕ) (at : CommitAt) (made : ℕ) {r : Record} (
   commit-event : (g : Configuration) → commit (commitIn g file at n) ≡ event g (entryOf file n r)
   unfolding entryOf event
   commit-event g = ap (λ (x : Record). event g (entryOf file n x)) (sym is)
+
+  -- its operations come sorted
+  pub sorted-in : (values : List ℕ) → RecordSorted file (at .ranks) values r → SortedIn file at values
+  unfolding RecordSorted
+  sorted-in values s = subst (RecordSorted file (at .ranks) values) is s
 
   module _ (number : ℕ) {versions keys views seen sessions commits links verdicts values : List ℕ} {versions′ keys′ views′ seen′ sessions′ commits′ links′ verdicts′ : List ℕ} (values′ : List ℕ) (o : Outcome)
       (done : (g : Configuration) (clients : ℕ) (fs : Level → Option Failure)

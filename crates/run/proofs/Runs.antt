@@ -7,6 +7,8 @@ use mathlib.Core.List.{List}
 use native.Mathlib.Omega.{arith}
 use lib.ListN.{length}
 use Rattle.search.specs.Choose.{orElse}
+use Rattle.search.proofs.Choose.{choose-ind}
+use Rattle.sets.specs.Set.{Set}
 use Rattle.endian.specs.Endian.{Bytes}
 use Rattle.store.specs.Limits.{maxClients, maxCommits, minBytes}
 use Rattle.store.specs.Store.{Configuration, openingStore, opening, Event}
@@ -19,8 +21,10 @@ use Rattle.trace.specs.Result.{taken}
 use Rattle.trace.specs.Entry.{Entry, shifting, committing, over, commitMeant, event, eventsOf}
 use Rattle.trace.specs.Format.{Header, commitsWith, entriesFrom}
 use Rattle.trace.specs.Meaning.{whyNumber, entryOf, readingOf, RecordSays, countedOf, FormSays, AllRecordsSay, RestSays}
+use Rattle.trace.specs.Sorted.{RecordSorted, ReadingSorted}
 use Rattle.trace.specs.declared.records.Record.{Record}
 use Rattle.trace.specs.declared.records.Why.{Why}
+use Rattle.trace.specs.declared.records.Why.the-variants.{Many}
 use Rattle.trace.specs.declared.records.Reading.{Reading}
 use Rattle.trace.specs.declared.records.Reading.the-variants.{Whole, Refused as Unread}
 use Rattle.trace.specs.declared.form.Header.{Header as CodeHeader}
@@ -66,6 +70,16 @@ pub as-read : (file : List ℕ) (at n clients number made : ℕ) (x : Reading) �
     → {z : Reading} → y ≡ z → CountedSays file at n clients number made z
 as-read file at n clients number made x says counted is =
     subst (CountedSays file at n clients number made) (sym (counted file n) ∙ is) (counted-says file at n clients number made x says)
+
+-- it is sorted as what was read is
+counted-sorted : (file : List ℕ) (made : ℕ) (ranks : Set) (values : List ℕ) (x : Reading) → ReadingSorted file ranks values x → ReadingSorted file ranks values (countedOf file 0 made x)
+unfolding countedOf
+counted-sorted file made ranks values (Unread w) sorted = tt
+counted-sorted file made ranks values (Whole r next) sorted = choose-ind (ReadingSorted file ranks values) _ (Whole r next) (Unread Many) (λ t. sorted) (λ t. tt)
+
+pub as-sorted : (file : List ℕ) (made : ℕ) (ranks : Set) (values : List ℕ) (x : Reading) → ReadingSorted file ranks values x → {y : Reading} → ((s : List ℕ) (keys : ℕ) → y ≡ countedOf s keys made x)
+    → {r : Record} {next : ℕ} → y ≡ Whole r next → RecordSorted file ranks values r
+as-sorted file made ranks values x sorted counted is = subst (ReadingSorted file ranks values) (sym (counted file 0) ∙ is) (counted-sorted file made ranks values x sorted)
 
 module _ {file : List ℕ} {n clients records left at number made : ℕ} (t : InTurn file n clients records left at number made) where
   -- it is refused
@@ -155,6 +169,19 @@ module _ {file : List ℕ} {n clients records : ℕ} {rs : List Entry} where
           keeps = subst (λ (g : Configuration). Keeps g versions keys views seen sessions commits links) (sym ends) (s .keeps);
           failures = failures-same verdicts-are (s .failures);
         }
+
+    -- a record is read, with values that fit as well
+    pub run-reads : {values′ : List ℕ} → (ValuesFit values → ValuesFit values′) → Stands file n clients records rs left at number made versions keys views seen sessions commits links verdicts values′
+    run-reads fit = record {
+      g = s .g;
+      rest = s .rest;
+      fs = s .fs;
+      along = s .along;
+      counted = s .counted;
+      keeps = s .keeps;
+      failures = s .failures;
+      small = fit (s .small);
+    }
 
     standing : Standing (s .g) (s .fs) n made versions keys views seen sessions commits links verdicts values
     standing = record {

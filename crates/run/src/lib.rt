@@ -72,8 +72,9 @@ pub fn run_all(
     let mut made: usize = 0;
     let mut left = records;
     while 0 < left {
-        let read = trace::records::record_at(file, at, n, clients);
-        let reading = trace::form::counted(read, made);
+        let read = trace::records::record_at(file, at, n, clients, values);
+        let first = read.reading;
+        let reading = trace::form::counted(first, made);
         let Reading::Whole { record, next } = reading else {
             return Ran::Misshapen {
                 code: trace::records::refusal(reading),
@@ -84,6 +85,7 @@ pub fn run_all(
         let outcome = one_record(
             file,
             record,
+            read.ranks,
             number,
             made,
             versions,

@@ -12,7 +12,7 @@ use Rattle.store.specs.View.{FitsView}
 use Rattle.store.proofs.Legal.{legal-shift}
 use Rattle.state.specs.Keeps.{IsSet, KeepsMasks, KeepsViews}
 use Rattle.views.specs.Rows.{Kept}
-use Rattle.views.specs.Gained.{WriterBelow}
+use Rattle.views.specs.Writing.{WriterBelow}
 use Rattle.views.proofs.AtOnce.{full-is-view, full-has, full-holds-all}
 use Rattle.shifts.specs.Outcomes.{ShiftGiven}
 use Rattle.shifts.proofs.Replaced.{shift-replaces}

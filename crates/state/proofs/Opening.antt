@@ -21,7 +21,7 @@ use Rattle.store.specs.History.{Wrote, history, held}
 use Rattle.store.proofs.Sound.{opening-first, sound-opening}
 use Rattle.store.proofs.Opening.{opening-history}
 use Rattle.growth.specs.Sessions.{ReadUpTo}
-use Rattle.state.specs.Places.{headPlace, readersPlace, fullPlace, writersPlace, viewPlace, commitsPlace, drawnPlace, barPlace, beforePlace, readPlace, linkPlace, leadPlace, enteredPlace, clientRows, versionsLength, keysLength, viewsLength, seenLength, sessionsLength, commitsLength, linksLength}
+use Rattle.state.specs.Places.{headPlace, readersPlace, ownedPlace, fullPlace, writersPlace, viewPlace, commitsPlace, drawnPlace, barPlace, beforePlace, readPlace, linkPlace, leadPlace, enteredPlace, clientRows, versionsLength, keysLength, viewsLength, seenLength, sessionsLength, commitsLength, linksLength}
 use Rattle.state.specs.Keeps.{IsSet, RowIs, KeepsVersions, KeepsKeys, KeepsViews, KeepsSessions, KeepsCommits, KeepsLinks, NotedSince, FollowsLinks, Keeps, WroteKey, CommitOf, FirstLink, Step}
 
 -- an array of n words x
@@ -80,6 +80,7 @@ module _ (keys : ℕ) where
     heads = λ k i l. zeros versionsLength (headPlace k i) ∙ ap (λ (v : Version). v .value + 2 ^ 32 * v .writer) (sym (first-version k i l));
     readers = λ k i l. zeros versionsLength (readersPlace k i) ∙ ap (λ (v : Version). v .readers) (sym (first-version k i l));
     value-fits = λ k i l. subst (λ (v : Version). v .value < 2 ^ 32) (sym (first-version k i l)) (lit< tt);
+    owned = λ t p b k l. nothing-in _ (zeros versionsLength (ownedPlace t k)) (λ i w. let z : t ≡ 0 = o .only-first t k i w .0 in omega arith);
   }
 
   keeps-keys : keys ≤ maxKeys → KeepsKeys s (filled keysLength 1)

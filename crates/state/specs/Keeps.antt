@@ -18,7 +18,7 @@ use Rattle.store.specs.History.{Wrote, Read, InLog, history, held}
 use Rattle.growth.specs.Made.{Made}
 use Rattle.growth.specs.Links.{FromSession, FromRead, FromWrite, ToLater}
 use Rattle.growth.specs.Sessions.{ReadUpTo}
-use Rattle.state.specs.Places.{numbers, headPlace, readersPlace, fullPlace, writersPlace, viewPlace, storedRow, commitsPlace, drawnPlace, barPlace, logPlace, beforePlace, readPlace, linkPlace, leadPlace, notePlace, enteredPlace, packed}
+use Rattle.state.specs.Places.{numbers, headPlace, readersPlace, ownedPlace, fullPlace, writersPlace, viewPlace, storedRow, commitsPlace, drawnPlace, barPlace, logPlace, beforePlace, readPlace, linkPlace, leadPlace, notePlace, enteredPlace, packed}
 use Rattle.state.specs.Room.{VersionsRoom, KeysRoom, ViewsRoom, SeenRoom, SessionsRoom, CommitsRoom, LinksRoom, FreshRoom, ValuesRoom}
 
 -- a word is the set of the numbers with P
@@ -32,6 +32,8 @@ pub record KeepsVersions (s : Store) (versions : List ℕ) : Type 0 where
   pub heads : (k i : ℕ) → i < count s k → getD versions (headPlace k i) 0 ≡ packed (version s k i .value) (version s k i .writer)
   pub readers : (k i : ℕ) → i < count s k → getD versions (readersPlace k i) 0 ≡ version s k i .readers
   pub value-fits : (k i : ℕ) → i < count s k → version s k i .value < 2 ^ 32
+  -- the versions that a commit wrote; the opening transaction has no row
+  pub owned : (t : CommitNumber) → 0 < t → t < numbers → (k : Key) → k < s .keys → IsSet (getD versions (ownedPlace t k) 0) (Wrote s t k)
 
 -- a commit that wrote a version of the key; one that read a version of it
 abbrev pub WroteKey : Store → Key → CommitNumber → Type 0

@@ -5,15 +5,18 @@ use Rattle.store.specs.Limits.{maxKeys, maxClients}
 pub use Rattle.store.specs.Limits.{perKey, numbers}
 use Rattle.store.specs.Store.{Key, VersionNumber, CommitNumber, Client}
 
--- versions: the heads, then the readers
+-- versions: the heads, then the readers; then a row for each commit number, of the versions that the commit wrote
 abbrev pub headPlace : Key → VersionNumber → ℕ
 headPlace k i = perKey * k + i
 
 abbrev pub readersPlace : Key → VersionNumber → ℕ
 readersPlace k i = perKey * maxKeys + headPlace k i
 
+abbrev pub ownedPlace : CommitNumber → Key → ℕ
+ownedPlace t k = 2 * (perKey * maxKeys) + (maxKeys * t + k)
+
 abbrev pub versionsLength : ℕ
-versionsLength = 2 * (perKey * maxKeys)
+versionsLength = 2 * (perKey * maxKeys) + numbers * maxKeys
 
 -- keys: the full masks, then the sets of writers
 abbrev pub fullPlace : Key → ℕ

@@ -28,10 +28,14 @@ pub struct CommitNumber(pub usize);
 
 // ---- where the tables start, in the order of specs/Places.antt; what is not named starts at 0
 
-// versions: a row for each key, of heads; then as many rows of readers.
+// versions: a row for each key, of heads; then as many rows of readers; then a row for each commit number.
 pub const PER_KEY: usize = Store::VERSIONS;
 
 pub const READERS: usize = PER_KEY * Store::KEYS;
+
+pub const OWNED: usize = 2 * READERS;
+
+pub const PER_COMMIT: usize = Store::KEYS;
 
 // keys: the sets of writers, after the full masks.
 pub const WRITERS: usize = Store::KEYS;

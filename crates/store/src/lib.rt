@@ -7,8 +7,8 @@ ghost use lib.ListN.{replicate};
 ghost use Rattle.store.specs.Limits.{maxKeys, maxClients, maxCommits, numbers, perKey, minBytes, maxBytes, maxImage, maxReplay};
 
 pub struct Store {
-    // Of each version its value and writer; then of each its readers.
-    pub versions: [u64; 2 * Store::VERSIONS * Store::KEYS],
+    // Of each version its value and writer; then of each its readers; then of each commit the versions that it wrote, key by key.
+    pub versions: [u64; 2 * (Store::VERSIONS * Store::KEYS) + Store::NUMBERS * Store::KEYS],
     // Of each key the mask of all its versions; then of each the set of its writers.
     pub keys: [u64; 2 * Store::KEYS],
     // Of each client the set of commits of which its view holds a version.
@@ -63,13 +63,13 @@ impl Store {
     // "At the start each list is version 0: value 0, writer the opening transaction (number 0), no readers". The views, "{0} at each key", are an array that
     // a call makes itself: it is the longest that does not begin with 0, and would be copied out of this.
     pub fn opening() -> Store
-        ensures versions { λ r. ⌜ r .versions ≡ replicate (2 * (perKey * maxKeys)) 0 ⌝ }
+        ensures versions { λ r. ⌜ r .versions ≡ replicate (2 * (perKey * maxKeys) + numbers * maxKeys) 0 ⌝ }
         ensures keys { λ r. ⌜ r .keys ≡ replicate (2 * maxKeys) 1 ⌝ }
         ensures seen { λ r. ⌜ r .seen ≡ replicate maxClients 1 ⌝ }
         ensures commits { λ r. ⌜ (r .sessions ≡ replicate (3 * maxClients) 0) × (r .commits ≡ replicate (3 * numbers) 0) × (r .links ≡ replicate (2 * numbers + 2 * maxKeys + 5 * numbers + 1) 0) ⌝ }
     {
         Store {
-            versions: [0; 2 * Store::VERSIONS * Store::KEYS],
+            versions: [0; 2 * (Store::VERSIONS * Store::KEYS) + Store::NUMBERS * Store::KEYS],
             keys: [1; 2 * Store::KEYS],
             seen: [1; Store::CLIENTS],
             sessions: [0; 3 * Store::CLIENTS],

@@ -1,9 +1,8 @@
 -- A list whose elements are set one after the other, from the first. Assumes nothing.
 use Prim.Native.Nat.{ℕ, _+_, _≤_, _<_}
-use mathlib.Core.Path.{_≡_, refl, sym, ap, _∙_, subst}
+use mathlib.Core.Path.{_≡_, refl, _∙_}
 use mathlib.Core.List.{List}
 use native.Mathlib.Omega.{arith}
-use native.Mathlib.Decide.{ℕ-discrete}
 use borrow.Author.Count.{below-more}
 use lib.ListN.{length, getD, set, length-set}
 use lib.Seq.{getD-set-same, getD-set-other}
@@ -27,17 +26,3 @@ module _ (f : ℕ → ℕ) (before : List ℕ) where
         kept = λ k more. getD-set-other now i k (f i) 0 (omega arith) ∙ h .kept k (omega arith);
         same-length = length-set now i (f i) ∙ long;
       })
-
-  -- one of them once more
-  pub filled-again : {i j : ℕ} {now after : List ℕ} → j < i → j < length before → Filled f before i now → after ≡ set now j (f j) → Filled f before i after
-  filled-again {i} {j} {now} within l h e =
-      let long = h .same-length in
-      rw e (record {
-        filled = λ k less. go k less (ℕ-discrete k j);
-        kept = λ k more. getD-set-other now j k (f j) 0 (omega arith) ∙ h .kept k more;
-        same-length = length-set now j (f j) ∙ long;
-      })
-    where
-      go : (k : ℕ) → k < i → Dec (k ≡ j) → getD (set now j (f j)) k 0 ≡ f k
-      go k less (yes same) = let long = h .same-length in subst (λ (x : ℕ). getD (set now j (f j)) x 0 ≡ f x) (sym same) (getD-set-same now j (f j) 0 (omega arith))
-      go k less (no other) = getD-set-other now j k (f j) 0 other ∙ h .filled k less

@@ -1,7 +1,7 @@
 -- What a record lists, put over a row of masks: one lemma for each way of listing. Assumes nothing.
 use Prim.Native.Nat.{ℕ, zero, suc, _+_, _*_, _^_, _≤_, _<_}
 use mathlib.Core.Path.{_≡_, refl, sym, ap, _∙_, subst, fun-ext}
-use mathlib.Core.Bool.{Bool, true}
+use mathlib.Core.Bool.{Bool}
 use mathlib.Core.Option.{Option}
 use mathlib.Core.List.{List}
 use native.Mathlib.Omega.{arith}
@@ -15,25 +15,31 @@ use Rattle.sets.specs.Set.{Set, has, below, size}
 use Rattle.sets.proofs.Laws.{has-below, below-small}
 use Rattle.sets.proofs.Counting.{size-howMany}
 use Rattle.endian.specs.Endian.{Bytes, leAt}
-use Rattle.store.specs.Limits.{maxKeys}
-use Rattle.trace.specs.Entry.{Listed, listedOr}
-use Rattle.store.specs.Store.{Operation}
-use Rattle.trace.specs.Listed.{listedAt, touched, keysIn}
+use Rattle.store.specs.Store.{Key}
+use Rattle.trace.specs.Entry.{listedOr}
+use Rattle.trace.specs.Listed.{listedAt, touched}
 use Rattle.trace.specs.Format.{viewAt, operationsAt}
 use Rattle.trace.specs.Meaning.{listingOf, ListingFits, OperationsFit}
+use Rattle.trace.specs.Sorted.{touchedBy, ListsBy}
 use Rattle.trace.specs.WellFormed.{Rise}
 use Rattle.trace.specs.declared.records.Listing.{Listing}
 use Rattle.trace.specs.declared.records.Listing.the-variants.{Every, Only, Touched}
 use Rattle.trace.proofs.Decoded.{operations-read}
 use Rattle.trace.proofs.Listed.{touched-key}
-use Rattle.trace.proofs.Touched.{touched-size}
-use Rattle.trace.proofs.Masks.{over-unlisted, put-listed}
+use Rattle.trace.proofs.Touched.{touched-count}
+use Rattle.trace.proofs.Masks.{over-unlisted, over-listed}
 
 -- each number below n is in the set of all of them, so as many as n are
 below-count : (n k : ℕ) → k ≤ n → howMany k (has (below n)) ≡ k
 unfolding howMany choose
 below-count n zero l = refl
 below-count n (suc k) l = let rest = below-count n k (omega arith) in rw (T-true (has (below n) k) (has-below n k (omega arith))) (omega arith)
+
+-- the keys with an operation are those of the ranks
+pub lists-by : (s : List ℕ) (ranks : Set) {l : Listing} {operations count masks : ℕ} → l ≡ Touched operations count masks → ListsBy s ranks l
+    → (k : Key) → touchedBy ranks k ≡ touched (operationsAt s operations count) k
+unfolding ListsBy
+lists-by s ranks is by k = sym (subst (ListsBy s ranks) is by k)
 
 module _ (s : List ℕ) (n : ℕ) where
   -- ---- every key
@@ -69,7 +75,7 @@ module _ (s : List ℕ) (n : ℕ) where
       let count : howMany k (has listed) ≡ k = ap (λ (m : Set). howMany k (has m)) all ∙ below-count n k (omega arith) in
       same k below-n
       ∙ ap (λ (m : ℕ). leAt s (masks + 8 * m) 8) (sym count)
-      ∙ put-listed s masks listed (before k) k (subst (λ (m : Set). T (has m k)) (sym all) (has-below n k below-n))
+      ∙ over-listed s masks (has listed) (before k) k (subst (λ (m : Set). T (has m k)) (sym all) (has-below n k below-n))
       ∙ ap (λ (o : Option ℕ). listedOr o (before k)) (only-lists is k)
 
   -- ---- the keys with an operation
@@ -78,34 +84,21 @@ module _ (s : List ℕ) (n : ℕ) where
   unfolding ListingFits
   touched-fits is fits = subst (ListingFits s n) is fits .1
 
-  module _ (listed : Set) {l : Listing} {operations count masks : ℕ} (is : l ≡ Touched operations count masks) (fits : ListingFits s n l) (bytes : Bytes s)
-      (same : (k : ℕ) → has listed k ≡ touched (operationsAt s operations count) k) where
+  module _ (f : Key → Bool) {l : Listing} {operations count masks : ℕ} (is : l ≡ Touched operations count masks) (fits : ListingFits s n l) (bytes : Bytes s)
+      (same : (k : Key) → f k ≡ touched (operationsAt s operations count) k) where
     rises : Rise n 0 (operationsAt s operations count)
     rises = operations-read s bytes count operations n 0 (true-T _ (touched-fits is fits .1))
 
-    pub touched-room : n ≤ maxKeys → listed < 2 ^ 64 → masks + 8 * size listed ≤ length s
+    pub touched-room : (m : ℕ) → n ≤ m → masks + 8 * howMany m f ≤ length s
     unfolding ListingFits
-    touched-room few word = let within = subst (ListingFits s n) is fits .0 in let many = touched-size n (operationsAt s operations count) listed few word rises same in omega arith
+    touched-room m few = let within = subst (ListingFits s n) is fits .0 in let many = touched-count n m (operationsAt s operations count) f few rises same in omega arith
 
-    pub touched-below : (k : ℕ) → T (has listed k) → k < n
+    pub touched-below : (k : Key) → T (f k) → k < n
     touched-below k t = touched-key n 0 (operationsAt s operations count) k rises (subst T (same k) t) .0
 
-    pub touched-lists : (k : ℕ) → listedAt s masks (has listed) k ≡ listingOf s n l k
+    pub touched-lists : (k : Key) → listedAt s masks f k ≡ listingOf s n l k
     unfolding listingOf
-    touched-lists k = rw is (ap (λ (f : ℕ → Bool). listedAt s masks f k) (fun-ext same))
-
-  -- the same where they are taken as the operations are passed
-  module _ {l : Listing} {start count masks operations m : ℕ} (is : l ≡ Touched start count masks) (there : start ≡ operations) (many : count ≡ m) where
-    same-operations : operationsAt s start count ≡ operationsAt s operations m
-    same-operations = rw (there, many)
-
-    pub together-fits : ListingFits s n l → masks + 8 * keysIn (operationsAt s operations m) ≤ length s
-    unfolding ListingFits
-    together-fits fits = subst (λ (os : List Operation). masks + 8 * keysIn os ≤ length s) same-operations (subst (ListingFits s n) is fits .0)
-
-    pub together-lists : (k : ℕ) → listedAt s masks (touched (operationsAt s operations m)) k ≡ listingOf s n l k
-    unfolding listingOf
-    together-lists k = rw is (ap (λ (os : List Operation). listedAt s masks (touched os) k) (sym same-operations))
+    touched-lists k = rw is (ap (λ (g : Key → Bool). listedAt s masks g k) (fun-ext same))
 
   -- ---- either of the two, put over a row of masks
 

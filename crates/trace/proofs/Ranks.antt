@@ -1,31 +1,32 @@
 -- The operations of a commit sorted by their ranks: "so a key has at most one of each" (01, The trace file). Assumes nothing.
-use Prim.Native.Nat.{ℕ, zero, suc, _+_, _-_, _*_, _%_, _^_, _≤_, _<_}
-use mathlib.Core.Path.{_≡_, refl, sym, ap, _∙_, subst}
-use mathlib.Core.Bool.{Bool, true, false, _&&_}
+use Prim.Native.Nat.{ℕ, zero, suc, _+_, _*_, _%_, _^_, _≤_, _<_}
+use mathlib.Core.Path.{_≡_, refl, sym, ap, ap₂, _∙_, subst}
+use mathlib.Core.Bool.{Bool, true, false, _&&_, _||_}
 use mathlib.Core.Logic.{_≢_, ⊎-elim}
 use mathlib.Core.Option.{Option, some, none}
 use mathlib.Core.List.{List, [], _∷_, _++_}
 use native.Mathlib.Omega.{arith}
-use native.Mathlib.Nat.{add-zero, mul-zero, one-mul, sub-zero}
-use native.Mathlib.Numerals.{add-one}
+use native.Mathlib.Nat.{add-zero, mul-zero, one-mul}
 use native.Mathlib.Decide.{ℕ-discrete}
 use lib.Bits.{bitOr}
 use lib.Dec.{T, eqb, eqb→eq, lit<}
 use lib.ListN.{length, getD, set}
 use lib.Pow.{shl-exact}
 use lib.Seq.{getD-set-same, getD-set-other}
-use mir.Facts.{and-yes}
 use borrow.Author.Tests.{eq-eqb, ne-eqb}
-use Rattle.search.specs.Choose.{choose, when, orElse}
+use Rattle.search.specs.Choose.{choose, isSome, when, orElse}
+use Rattle.search.proofs.Choose.{isSome-when}
 use Rattle.search.proofs.Tests.{T-true, T-false, true-T, eq-test, when-none, same-test}
-use Rattle.sets.specs.Set.{has, insert}
+use Rattle.sets.specs.Set.{Set, has, insert}
 use Rattle.sets.proofs.Laws.{has-none, has-insert, insert-has, insert-self}
 use Rattle.endian.specs.Endian.{leAt}
 use Rattle.store.specs.Limits.{maxKeys}
-use Rattle.store.specs.Store.{Access, read, write, Operation}
+use Rattle.store.specs.Store.{Key, Access, read, write, Operation}
 use Rattle.store.specs.Update.{sameAccess, valueOf}
-use Rattle.trace.specs.Format.{accessOf, operationAt, operationsAt, rankAt, operationFits, operationsFit}
+use Rattle.trace.specs.Listed.{touched}
+use Rattle.trace.specs.Format.{accessOf, operationAt, operationsAt, rankAt, operationFits}
 use Rattle.trace.specs.Encode.{accessNumber}
+use Rattle.trace.specs.Sorted.{SortedAs, ValuesFit, touchedBy}
 use Rattle.trace.proofs.Tests.{operationFits-is}
 
 -- ---- one operation more
@@ -91,74 +92,86 @@ module _ (ranks rank v : ℕ) (values : List ℕ) where
 
 -- ---- all operations so far
 
--- the first i of the m operations from `start` on are sorted, into the set of their ranks and the values at these;
--- the values at other ranks are those from before
-pub record Sorted (s : List ℕ) (start keys m : ℕ) (before : List ℕ) (i ranks : ℕ) (values : List ℕ) : Type 0 where
-  pub by-rank : (a : Access) (k : ℕ) → valueOf a (operationsAt s start i) k ≡ when (has ranks (2 * k + accessNumber a)) (getD values (2 * k + accessNumber a) 0)
-  pub kept : (q : ℕ) → ¬ T (has ranks q) → getD values q 0 ≡ getD before q 0
-  pub low : ℕ
+-- the first i operations from `start` on are sorted, and their ranks are below `low`
+pub record SortedUp (s : List ℕ) (start i : ℕ) (ranks : Set) (low : ℕ) (values : List ℕ) : Type 0 where
+  pub by-rank : SortedAs s start i ranks values
   pub ranks-below : (r : ℕ) → T (has ranks r) → r < low
-  pub others-fit : operationsFit s (start + 8 * i) keys low (m - i) ≡ true
 
-pub sorted-none : (s : List ℕ) (start keys m : ℕ) (values : List ℕ) → operationsFit s start keys 0 m ≡ true → Sorted s start keys m values 0 0 values
+pub sorted-none : (s : List ℕ) (start i : ℕ) (values : List ℕ) → i ≡ 0 → SortedUp s start i 0 0 values
 unfolding operationsAt valueOf
-sorted-none s start keys m values fit = record {
+sorted-none s start i values none-yet = rw none-yet (record {
   by-rank = λ a k. sym (when-none _ _ .1 (has-none (2 * k + accessNumber a)));
-  kept = λ q out. refl;
-  low = 0;
   ranks-below = λ r t. absurd (has-none r t);
-  others-fit = rw (mul-zero 8, add-zero start, sub-zero m) fit;
-}
+})
 
--- the next operation fits, and so do those behind it
-module _ {s : List ℕ} {start keys m i ranks : ℕ} {before values : List ℕ} (h : Sorted s start keys m before i ranks values) (more : i < m) where
-  abbrev at : ℕ
-  at = start + 8 * i
-
-  next-and-others : T (operationFits s at keys (h .low)) × T (operationsFit s (at + 8) keys (suc (rankAt s at)) (m - (i + 1)))
-  unfolding operationsFit
-  next-and-others =
-      let left : m - i ≡ suc (m - (i + 1)) = omega arith in
-      and-yes (operationFits s at keys (h .low)) (operationsFit s (at + 8) keys (suc (rankAt s at)) (m - (i + 1))) (true-T _ (ap (operationsFit s at keys (h .low)) (sym left) ∙ h .others-fit))
-
-  pub next-fits : (leAt s at 1 ≤ 1) × (leAt s (at + 1) 1 < keys) × (leAt s (at + 2) 2 ≡ 0) × (h .low ≤ rankAt s at)
-  next-fits = operationFits-is s at keys (h .low) .0 (next-and-others .0)
+-- the next operation fits
+module _ {s : List ℕ} {start i low : ℕ} {ranks : Set} {values : List ℕ} (keys : ℕ) {at : ℕ} (h : SortedUp s start i ranks low values) (here : at ≡ start + 8 * i)
+    (fits : operationFits s at keys low ≡ true) where
+  pub next-fits : (leAt s at 1 ≤ 1) × (leAt s (at + 1) 1 < keys) × (leAt s (at + 2) 2 ≡ 0) × (low ≤ rankAt s at)
+  next-fits = operationFits-is s at keys low .0 (true-T _ fits)
 
   -- its value is put at its rank
-  next-by-rank : 2 * keys ≤ length values → (a : Access) (k : ℕ)
-      → valueOf a (operationsAt s start (i + 1)) k
-      ≡ when (has (insert (rankAt s at) ranks) (2 * k + accessNumber a)) (getD (set values (rankAt s at) (leAt s (at + 4) 4)) (2 * k + accessNumber a) 0)
+  next-by-rank : 2 * keys ≤ length values → SortedAs s start (suc i) (insert (rankAt s at) ranks) (set values (rankAt s at) (leAt s (at + 4) 4))
   unfolding valueOf
   next-by-rank long a k =
       let (access, key, zeros, rises) = next-fits in
       let q = 2 * k + accessNumber a in
-      let new : ¬ T (has ranks (rankAt s at)) = λ t. let below : rankAt s at < h .low = h .ranks-below (rankAt s at) t in omega arith in
+      let new : ¬ T (has ranks (rankAt s at)) = λ t. let below : rankAt s at < low = h .ranks-below (rankAt s at) t in omega arith in
       let last : valueOf a (operationAt s at ∷ []) k ≡ choose (eqb (rankAt s at) q) (some (leAt s (at + 4) 4)) none =
       ap (λ b. choose b (some (leAt s (at + 4) 4)) none) (of-rank a (leAt s at 1) (leAt s (at + 1) 1) k access) in
-      ap (λ n. valueOf a (operationsAt s start n) k) (add-one i)
-      ∙ ap (λ os. valueOf a os k) (operationsAt-last s start i)
+      ap (λ os. valueOf a os k) (operationsAt-last s start i ∙ ap (λ p. operationsAt s start i ++ (operationAt s p ∷ [])) (sym here))
       ∙ valueOf-last a (operationsAt s start i) (operationAt s at) k
       ∙ ap (λ x. orElse x (valueOf a (operationAt s at ∷ []) k)) (h .by-rank a k)
       ∙ ap (λ x. orElse (when (has ranks q) (getD values q 0)) x) last
       ∙ put-value ranks (rankAt s at) (leAt s (at + 4) 4) values new (omega arith) q
 
-  pub sorted-more : 2 * keys ≤ length values → Sorted s start keys m before (i + 1) (insert (rankAt s at) ranks) (set values (rankAt s at) (leAt s (at + 4) 4))
-  sorted-more long =
-      let (access, key, zeros, rises) = next-fits in
-      let place : start + 8 * i + 8 ≡ start + 8 * (i + 1) = omega arith in record {
-        by-rank = next-by-rank long;
-        kept = λ q out.
-            getD-set-other values (rankAt s at) q (leAt s (at + 4) 4) 0 (λ e. out (rw e (insert-self (rankAt s at) ranks)))
-            ∙ h .kept q (λ t. out (has-insert (rankAt s at) ranks q t));
-        low = suc (rankAt s at);
-        ranks-below = λ r t. ⊎-elim (λ old. let below = h .ranks-below r old in omega arith) (λ e. omega arith) (insert-has (rankAt s at) ranks r t);
-        others-fit = ap (λ p. operationsFit s p keys (suc (rankAt s at)) (m - (i + 1))) (sym place) ∙ T-true _ (next-and-others .1);
-      }
+  sorted-more : 2 * keys ≤ length values → SortedUp s start (suc i) (insert (rankAt s at) ranks) (suc (rankAt s at)) (set values (rankAt s at) (leAt s (at + 4) 4))
+  sorted-more long = let (access, key, zeros, rises) = next-fits in record {
+    by-rank = next-by-rank long;
+    ranks-below = λ r t. ⊎-elim (λ old. let below = h .ranks-below r old in omega arith) (λ e. omega arith) (insert-has (rankAt s at) ranks r t);
+  }
 
   -- the same in the words of the code, which sets the bit of the rank by a shift
-  pub sorted-turn : keys ≤ maxKeys → 2 * maxKeys ≤ length values → {rank v : ℕ} → rank ≡ rankAt s at → v ≡ leAt s (at + 4) 4
-      → Sorted s start keys m before (i + 1) (bitOr ranks (1 * 2 ^ rank % 2 ^ 64)) (set values rank v)
-  sorted-turn few long {rank} {v} r e =
+  pub sorted-turn : keys ≤ maxKeys → 2 * maxKeys ≤ length values → {j rank above v : ℕ} → j ≡ suc i → rank ≡ rankAt s at → above ≡ suc (rankAt s at) → v ≡ leAt s (at + 4) 4
+      → SortedUp s start j (bitOr ranks (1 * 2 ^ rank % 2 ^ 64)) above (set values rank v)
+  sorted-turn few long {j} {rank} {above} {v} n r b e =
       let (access, key, zeros, rises) = next-fits in
       let bit : 1 * 2 ^ rank % 2 ^ 64 ≡ 2 ^ rank = shl-exact 1 rank 64 (lit< tt) (omega arith) ∙ one-mul (2 ^ rank) in
-      rw (bit, r, e) (sorted-more (omega arith))
+      rw (n, bit, r, b, e) (sorted-more (omega arith))
+
+-- a value that is a u32, put among others
+pub values-put : (values : List ℕ) {rank v : ℕ} → ValuesFit values → rank < length values → v < 2 ^ 32 → ValuesFit (set values rank v)
+values-put values {rank} {v} small within fits q = go (ℕ-discrete q rank)
+  where
+    go : Dec (q ≡ rank) → getD (set values rank v) q 0 < 2 ^ 32
+    go (yes e) = rw (e, getD-set-same values rank v 0 within) fits
+    go (no n) = rw (getD-set-other values rank q v 0 n) (small q)
+
+-- ---- the keys with an operation, by the ranks
+
+some-chosen : (b : Bool) (v : ℕ) (x : Option ℕ) → isSome (choose b (some v) x) ≡ (b || isSome x)
+unfolding choose isSome
+some-chosen true v x = refl
+some-chosen false v x = refl
+
+-- a key has an operation where it is read or written
+touched-values : (os : List Operation) (k : Key) → touched os k ≡ (isSome (valueOf read os k) || isSome (valueOf write os k))
+unfolding touched valueOf isSome
+touched-values [] k = refl
+touched-values (o ∷ os) k =
+    ap (λ (b : Bool). eqb (o .key) k || b) (touched-values os k)
+    ∙ either (o .access) (eqb (o .key) k) (isSome (valueOf read os k)) (isSome (valueOf write os k))
+    ∙ sym (ap₂ _||_ (some-chosen (sameAccess read (o .access) && eqb (o .key) k) (o .value) (valueOf read os k)) (some-chosen (sameAccess write (o .access) && eqb (o .key) k) (o .value) (valueOf write os k)))
+  where
+    either : (a : Access) (here r w : Bool) → (here || (r || w)) ≡ (((sameAccess read a && here) || r) || ((sameAccess write a && here) || w))
+    either read true r w = refl
+    either read false r w = refl
+    either write true true w = refl
+    either write true false w = refl
+    either write false r w = refl
+
+-- so by the ranks of the operations it has one of the two of the key
+pub touched-sorted : (s : List ℕ) (start m : ℕ) (ranks : Set) (values : List ℕ) → SortedAs s start m ranks values → (k : Key) → touched (operationsAt s start m) k ≡ touchedBy ranks k
+touched-sorted s start m ranks values sorted k =
+    touched-values (operationsAt s start m) k
+    ∙ ap₂ _||_ (ap isSome (sorted read k) ∙ isSome-when (has ranks (2 * k + 0)) _ ∙ ap (has ranks) (add-zero (2 * k))) (ap isSome (sorted write k) ∙ isSome-when (has ranks (2 * k + 1)) _)

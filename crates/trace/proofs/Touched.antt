@@ -9,14 +9,14 @@ use lib.ListN.{length}
 use mir.Facts.{and-yes}
 use Rattle.search.specs.Search.{howMany}
 use Rattle.search.proofs.Tests.{T-true, T-false, true-T, same-test, eq-test}
-use Rattle.search.proofs.Counting.{howMany-passed}
+use Rattle.search.proofs.Counting.{howMany-same, howMany-passed}
 use Rattle.sets.specs.Set.{Set, has, insert, size}
 use Rattle.sets.proofs.Laws.{has-none}
 use Rattle.sets.proofs.Algebra.{has-insert-is}
 use Rattle.sets.proofs.Counting.{size-howMany}
 use Rattle.endian.specs.Endian.{leAt}
 use Rattle.store.specs.Limits.{maxKeys}
-use Rattle.store.specs.Store.{Operation}
+use Rattle.store.specs.Store.{Key, Operation}
 use Rattle.trace.specs.Listed.{touched, keysIn}
 use Rattle.trace.specs.Format.{operationsAt, rankAt, operationFits, operationsFit}
 use Rattle.trace.specs.Meaning.{OperationsFit}
@@ -91,10 +91,12 @@ gathered-all {s} {start} {m} {at} {left} {listed} h none k = sym (or-none (has l
     or-none true = refl
     or-none false = refl
 
--- the set of the keys of operations that rise holds as many as differ "from the one before"
-pub touched-size : (keys : ℕ) (os : List Operation) (listed : Set) → keys ≤ maxKeys → listed < 2 ^ 64 → Rise keys 0 os → ((k : ℕ) → has listed k ≡ touched os k) → size listed ≡ keysIn os
-touched-size keys os listed few word rise same =
-    size-howMany 64 listed word
-    ∙ ap (howMany 64) (λ i k. same k i)
-    ∙ howMany-passed keys 64 (touched os) (omega arith) (λ k from to t. let below = touched-key keys 0 os k rise t .0 in omega arith)
+-- as many keys have one of operations that rise as differ "from the one before"
+pub touched-count : (keys n : ℕ) (os : List Operation) (f : Key → Bool) → keys ≤ n → Rise keys 0 os → ((k : Key) → f k ≡ touched os k) → howMany n f ≡ keysIn os
+touched-count keys n os f few rise same =
+    howMany-same n f (touched os) (λ k l. same k)
+    ∙ howMany-passed keys n (touched os) few (λ k from to t. let below = touched-key keys 0 os k rise t .0 in omega arith)
     ∙ sym (keysIn-howMany keys os rise)
+
+pub touched-size : (keys : ℕ) (os : List Operation) (listed : Set) → keys ≤ maxKeys → listed < 2 ^ 64 → Rise keys 0 os → ((k : Key) → has listed k ≡ touched os k) → size listed ≡ keysIn os
+touched-size keys os listed few word rise same = size-howMany 64 listed word ∙ touched-count keys 64 os (has listed) (omega arith) rise same

@@ -1,5 +1,5 @@
 // "The reader of records keeps hold of the file together with its own place in it" (01, The trace file). Each function over a reader
-// is thin: it takes the reader apart, and records::record_at, on the slice and the number, does the work.
+// is thin: it takes the reader apart, and records::reading_at, on the slice and the number, does the work.
 ghost use mathlib.Core.Path.{_≡_};
 ghost use Prim.Native.Nat.{_≤_};
 ghost use lib.ListN.{length};
@@ -25,7 +25,7 @@ pub fn next<'s, 'a>(r: &'s mut Reader<'a>, keys: usize, clients: usize) -> Readi
     requires { ⌜ (now r .at ≤ length (now (now r .src))) × (keys ≤ maxKeys) ⌝ }
     ensures { λ x. ⌜ RecordSays (now (now (r .entry) .src)) (now (r .entry) .at) keys clients x × (now (r .exit) ≡ record { src = now (r .entry) .src; at = placeAfter x (now (r .entry) .at) }) ⌝ }
 {
-    let x = records::record_at(r.src, r.at, keys, clients);
+    let x = records::reading_at(r.src, r.at, keys, clients);
     r.at = records::place_after(x, r.at);
     x
 }

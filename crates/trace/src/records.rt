@@ -2,13 +2,17 @@
 // of "Bench codes": "4 bytes left, kind 4, rest of 3, then 6, 7".
 ghost use mathlib.Core.Path.{_≡_};
 ghost use mathlib.Core.List.{List};
-ghost use Prim.Native.Nat.{ℕ, _+_, _*_, _^_, _≤_, _<_};
+ghost use mathlib.Core.Bool.{_&&_, _||_};
+ghost use Prim.Native.Nat.{ℕ, _+_, _*_, _%_, _≤_, _<_};
 ghost use lib.ListN.{length};
+ghost use lib.Dec.{eqb};
 ghost use Rattle.search.specs.Choose.{choose};
+ghost use Rattle.sets.specs.Set.{has};
 ghost use Rattle.store.specs.Limits.{maxKeys, maxCommits};
 ghost use Rattle.trace.specs.Listed.{keysIn};
-ghost use Rattle.trace.specs.Format.{operationsAt, rankAt, operationFits, operationsFit, shiftAt, commitOf, commitAt, shortShiftOf, shortShiftAt, shortCommitOf, shortCommitAt, commitsWith};
+ghost use Rattle.trace.specs.Format.{operationsAt, rankAt, operationFits, shiftAt, commitOf, commitAt, shortShiftOf, shortShiftAt, shortCommitOf, shortCommitAt, commitsWith};
 ghost use Rattle.trace.specs.Meaning.{whyNumber, refusalNumber, placeAfter, entryOf, Answers, RecordSays, InFormAt};
+ghost use Rattle.trace.specs.Sorted.{ValuesFit, SortSays, SortedInto};
 
 // Why a record is refused; whyNumber gives the code.
 pub enum Why {
@@ -55,6 +59,18 @@ pub enum Record {
 pub enum Reading {
     Whole { record: Record, next: usize },
     Refused(Why),
+}
+
+// What was read, and where it is a commit the ranks of its operations, as a set.
+pub struct Read {
+    pub reading: Reading,
+    pub ranks: u64,
+}
+
+// The operations of a commit fit, and these are their ranks, as a set; or they do not.
+pub enum Sorted {
+    Fit(u64),
+    Unfit,
 }
 
 // A record that is known to be in form, and the place where the next one starts.
@@ -142,23 +158,43 @@ fn low_after(s: &[u8], at: usize, keys: usize, low: usize) -> usize
     rank + 1
 }
 
-// "Operations rise strictly by key and then kind": the m operations from a place on fit, each of a higher rank than the one before.
-fn operations_fit(s: &[u8], start: usize, keys: usize, m: usize) -> bool
-    requires { ⌜ (start + 8 * m ≤ length (now s)) × (m < 256) ⌝ }
-    ensures { λ r. ⌜ r ≡ operationsFit (now (s .entry)) start keys 0 m ⌝ }
+// "Operations rise strictly by key and then kind": whether the m operations from a place on fit, each of a higher rank 2 * key + access than the one
+// before. Where they do, the element of `values` at each of their ranks becomes the operation's value.
+pub fn sort(s: &[u8], start: usize, keys: usize, m: usize, values: &mut [u64]) -> Sorted
+    requires { ⌜ (start + 8 * m ≤ length (now s)) × (keys ≤ maxKeys) × (2 * maxKeys ≤ length (now values)) ⌝ }
+    ensures said { λ r. ⌜ SortSays (now (s .entry)) start keys m (now (values .exit)) r ⌝ }
+    ensures small { λ _. ⌜ (ValuesFit (now (values .entry)) → ValuesFit (now (values .exit))) ⌝ }
 {
+    let mut ranks: u64 = 0;
     let mut low: usize = 0;
     let mut at = start;
     let mut left = m;
     while 0 < left {
         low = low_after(s, at, keys, low);
         if low == 0 {
-            return false;
+            return Sorted::Unfit;
         }
+        let rank = low - 1;
+        values[rank] = endian::u32_at(s, at + 4) as u64;
+        ranks = ranks | (1u64 << rank);
         at = at + 8;
         left = left - 1;
     }
-    true
+    Sorted::Fit(ranks)
+}
+
+// Of each key with an operation the first of its two ranks, 2 * key, by the ranks of the operations.
+pub fn first_ranks(ranks: u64) -> u64
+    ensures { λ r. ⌜ ((i : ℕ) → has r i ≡ (eqb (i % 2) 0 && (has ranks i || has ranks (i + 1)))) ⌝ }
+{
+    (ranks | (ranks >> 1)) & 0x5555_5555_5555_5555
+}
+
+// What was read has no operations.
+fn unsorted(reading: Reading) -> Read
+    ensures { λ r. ⌜ r .reading ≡ reading ⌝ }
+{
+    Read { reading, ranks: 0 }
 }
 
 // "Kind 2, view shift, length 6 + 8K for K keys: client u8, zero u8, K view masks u64."
@@ -189,50 +225,52 @@ fn shift_at(s: &[u8], at: usize, keys: usize, clients: usize) -> Reading
 }
 
 // A commit of m operations: what is tested of it once m is read.
-fn commit_of(s: &[u8], at: usize, keys: usize, clients: usize, m: usize) -> Reading
-    requires { ⌜ (at + 6 ≤ length (now s)) × (keys ≤ maxKeys) × (m < 256) ⌝ }
-    ensures { λ r. ⌜ Answers (now (s .entry)) keys clients (λ h. commitOf (now (s .entry)) h at m) r ⌝ }
+fn commit_of(s: &[u8], at: usize, keys: usize, clients: usize, m: usize, values: &mut [u64]) -> Read
+    requires { ⌜ (at + 6 ≤ length (now s)) × (keys ≤ maxKeys) × (m < 256) × (2 * maxKeys ≤ length (now values)) ⌝ }
+    ensures said { λ r. ⌜ Answers (now (s .entry)) keys clients (λ h. commitOf (now (s .entry)) h at m) (r .reading) ⌝ }
+    ensures sorted { λ r. ⌜ SortedInto (now (s .entry)) (now (values .entry)) (now (values .exit)) r ⌝ }
 {
     let size = 10 + 8 * m + 8 * keys;
     if endian::u16_at(s, at) as usize != size {
-        return Reading::Refused(Why::Length);
+        return unsorted(Reading::Refused(Why::Length));
     }
     if s.len() < at + size {
-        return Reading::Refused(Why::Length);
+        return unsorted(Reading::Refused(Why::Length));
     }
     let client = endian::byte_at(s, at + 4);
     if clients <= client {
-        return Reading::Refused(Why::Client);
+        return unsorted(Reading::Refused(Why::Client));
     }
-    if operations_fit(s, at + 10, keys, m) {
-        let listing = Listing::Every {
-            masks: at + (10 + 8 * m),
-        };
-        let record = Record::Commit {
-            client,
-            count: m,
-            session: endian::u32_at(s, at + 6),
-            operations: at + 10,
-            listing,
-        };
-        Reading::Whole {
-            record,
-            next: at + size,
-        }
-    } else {
-        Reading::Refused(Why::Body)
-    }
+    let Sorted::Fit(ranks) = sort(s, at + 10, keys, m, values) else {
+        return unsorted(Reading::Refused(Why::Body));
+    };
+    let listing = Listing::Every {
+        masks: at + (10 + 8 * m),
+    };
+    let record = Record::Commit {
+        client,
+        count: m,
+        session: endian::u32_at(s, at + 6),
+        operations: at + 10,
+        listing,
+    };
+    let reading = Reading::Whole {
+        record,
+        next: at + size,
+    };
+    Read { reading, ranks }
 }
 
 // "Kind 3, commit, length 10 + 8m + 8K: client u8, m u8, session number u32, m operations, K masks of the view after the commit."
-fn commit_at(s: &[u8], at: usize, keys: usize, clients: usize) -> Reading
-    requires { ⌜ (at + 4 ≤ length (now s)) × (keys ≤ maxKeys) ⌝ }
-    ensures { λ r. ⌜ Answers (now (s .entry)) keys clients (λ h. commitAt (now (s .entry)) h at) r ⌝ }
+fn commit_at(s: &[u8], at: usize, keys: usize, clients: usize, values: &mut [u64]) -> Read
+    requires { ⌜ (at + 4 ≤ length (now s)) × (keys ≤ maxKeys) × (2 * maxKeys ≤ length (now values)) ⌝ }
+    ensures said { λ r. ⌜ Answers (now (s .entry)) keys clients (λ h. commitAt (now (s .entry)) h at) (r .reading) ⌝ }
+    ensures sorted { λ r. ⌜ SortedInto (now (s .entry)) (now (values .entry)) (now (values .exit)) r ⌝ }
 {
     if s.len() <= at + 5 {
-        return Reading::Refused(Why::Length);
+        return unsorted(Reading::Refused(Why::Length));
     }
-    commit_of(s, at, keys, clients, endian::byte_at(s, at + 5))
+    commit_of(s, at, keys, clients, endian::byte_at(s, at + 5), values)
 }
 
 // "kind 6, a shift with a u32 set of changed keys .. and then those masks": what is tested of it once the set is read. "8 for each set bit":
@@ -301,59 +339,45 @@ pub fn keys_in(s: &[u8], start: usize, m: usize) -> usize
     count
 }
 
-// Where the m operations from a place on fit, one more than the number of their keys; 0 where they do not. One pass over them does both.
-fn keys_fitting(s: &[u8], start: usize, keys: usize, m: usize) -> usize
-    requires { ⌜ (start + 8 * m ≤ length (now s)) × (keys ≤ maxKeys) ⌝ }
-    ensures { λ r. ⌜ (r ≡ choose (operationsFit (now (s .entry)) start keys 0 m) (keysIn (operationsAt (now (s .entry)) start m) + 1) 0) × (r < 256) ⌝ }
-{
-    let mut found: u64 = 0;
-    let mut low: usize = 0;
-    let mut at = start;
-    let mut left = m;
-    while 0 < left {
-        low = low_after(s, at, keys, low);
-        if low == 0 {
-            return 0;
-        }
-        found = sets::insert(found, endian::byte_at(s, at + 1));
-        at = at + 8;
-        left = left - 1;
-    }
-    sets::size(found) + 1
-}
-
-// How many keys the m operations from a place on have, as keys_in counts them, where `fitting` is what keys_fitting answers of them: only those that do
-// not fit are gone over again.
-fn keys_counted(s: &[u8], start: usize, keys: usize, m: usize, fitting: usize) -> usize
-    requires { ⌜ (start + 8 * m ≤ length (now s)) × (m < 256) × (fitting ≡ choose (operationsFit (now s) start keys 0 m) (keysIn (operationsAt (now s) start m) + 1) 0) × (fitting < 256) ⌝ }
+// How many keys the m operations from a place on have, as keys_in counts them: only those that do not fit are gone over again.
+fn keys_counted(s: &[u8], start: usize, keys: usize, m: usize, sorted: Sorted) -> usize
+    requires { ⌜ (start + 8 * m ≤ length (now s)) × (m < 256) × (keys ≤ maxKeys) × ((values : List ℕ) × SortSays (now s) start keys m values sorted) ⌝ }
     ensures { λ r. ⌜ (r ≡ keysIn (operationsAt (now (s .entry)) start m)) × (r < 256) ⌝ }
 {
-    if fitting == 0 {
-        return keys_in(s, start, m);
+    match sorted {
+        Sorted::Fit(ranks) => sets::size(first_ranks(ranks)),
+        Sorted::Unfit => keys_in(s, start, m),
     }
-    fitting - 1
 }
 
 // "kind 5, a commit whose view after lists only the keys with an operation": one of m operations, which are there.
-fn short_commit_of(s: &[u8], at: usize, keys: usize, clients: usize, m: usize) -> Reading
-    requires { ⌜ (at + (10 + 8 * m) ≤ length (now s)) × (keys ≤ maxKeys) × (m < 256) ⌝ }
-    ensures { λ r. ⌜ Answers (now (s .entry)) keys clients (λ h. shortCommitOf (now (s .entry)) h at m (operationsAt (now (s .entry)) (at + 10) m)) r ⌝ }
+fn short_commit_of(
+    s: &[u8],
+    at: usize,
+    keys: usize,
+    clients: usize,
+    m: usize,
+    values: &mut [u64],
+) -> Read
+    requires { ⌜ (at + (10 + 8 * m) ≤ length (now s)) × (keys ≤ maxKeys) × (m < 256) × (2 * maxKeys ≤ length (now values)) ⌝ }
+    ensures said { λ r. ⌜ Answers (now (s .entry)) keys clients (λ h. shortCommitOf (now (s .entry)) h at m (operationsAt (now (s .entry)) (at + 10) m)) (r .reading) ⌝ }
+    ensures sorted { λ r. ⌜ SortedInto (now (s .entry)) (now (values .entry)) (now (values .exit)) r ⌝ }
 {
-    let fitting = keys_fitting(s, at + 10, keys, m);
+    let sorted = sort(s, at + 10, keys, m, values);
     let size = endian::u16_at(s, at) as usize;
-    if size != 10 + 8 * m + 8 * keys_counted(s, at + 10, keys, m, fitting) {
-        return Reading::Refused(Why::Length);
+    if size != 10 + 8 * m + 8 * keys_counted(s, at + 10, keys, m, sorted) {
+        return unsorted(Reading::Refused(Why::Length));
     }
     if s.len() < at + size {
-        return Reading::Refused(Why::Length);
+        return unsorted(Reading::Refused(Why::Length));
     }
     let client = endian::byte_at(s, at + 4);
     if clients <= client {
-        return Reading::Refused(Why::Client);
+        return unsorted(Reading::Refused(Why::Client));
     }
-    if fitting == 0 {
-        return Reading::Refused(Why::Body);
-    }
+    let Sorted::Fit(ranks) = sorted else {
+        return unsorted(Reading::Refused(Why::Body));
+    };
     let listing = Listing::Touched {
         operations: at + 10,
         count: m,
@@ -366,49 +390,62 @@ fn short_commit_of(s: &[u8], at: usize, keys: usize, clients: usize, m: usize) -
         operations: at + 10,
         listing,
     };
-    Reading::Whole {
+    let reading = Reading::Whole {
         record,
         next: at + size,
-    }
+    };
+    Read { reading, ranks }
 }
 
 // "an operation's key, beyond the file's end is code 3."
-fn short_commit_at(s: &[u8], at: usize, keys: usize, clients: usize) -> Reading
-    requires { ⌜ (at + 4 ≤ length (now s)) × (keys ≤ maxKeys) ⌝ }
-    ensures { λ r. ⌜ Answers (now (s .entry)) keys clients (λ h. shortCommitAt (now (s .entry)) h at) r ⌝ }
+fn short_commit_at(s: &[u8], at: usize, keys: usize, clients: usize, values: &mut [u64]) -> Read
+    requires { ⌜ (at + 4 ≤ length (now s)) × (keys ≤ maxKeys) × (2 * maxKeys ≤ length (now values)) ⌝ }
+    ensures said { λ r. ⌜ Answers (now (s .entry)) keys clients (λ h. shortCommitAt (now (s .entry)) h at) (r .reading) ⌝ }
+    ensures sorted { λ r. ⌜ SortedInto (now (s .entry)) (now (values .entry)) (now (values .exit)) r ⌝ }
 {
     if s.len() <= at + 5 {
-        return Reading::Refused(Why::Length);
+        return unsorted(Reading::Refused(Why::Length));
     }
     let m = endian::byte_at(s, at + 5);
     if s.len() < at + (10 + 8 * m) {
-        return Reading::Refused(Why::Length);
+        return unsorted(Reading::Refused(Why::Length));
     }
-    short_commit_of(s, at, keys, clients, m)
+    short_commit_of(s, at, keys, clients, m, values)
 }
 
-// The record at a place of the file.
-pub fn record_at(s: &[u8], at: usize, keys: usize, clients: usize) -> Reading
-    requires { ⌜ (at ≤ length (now s)) × (keys ≤ maxKeys) ⌝ }
-    ensures { λ r. ⌜ RecordSays (now (s .entry)) at keys clients r ⌝ }
+// The record at a place of the file; where it is a commit its operations are sorted.
+pub fn record_at(s: &[u8], at: usize, keys: usize, clients: usize, values: &mut [u64]) -> Read
+    requires { ⌜ (at ≤ length (now s)) × (keys ≤ maxKeys) × (2 * maxKeys ≤ length (now values)) ⌝ }
+    ensures said { λ r. ⌜ RecordSays (now (s .entry)) at keys clients (r .reading) ⌝ }
+    ensures sorted { λ r. ⌜ SortedInto (now (s .entry)) (now (values .entry)) (now (values .exit)) r ⌝ }
 {
     if s.len() < at + 4 {
-        return Reading::Refused(Why::Length);
+        return unsorted(Reading::Refused(Why::Length));
     }
     let kind = endian::u16_at(s, at + 2);
     if kind == 2 {
-        return shift_at(s, at, keys, clients);
+        return unsorted(shift_at(s, at, keys, clients));
     }
     if kind == 3 {
-        return commit_at(s, at, keys, clients);
+        return commit_at(s, at, keys, clients, values);
     }
     if kind == 5 {
-        return short_commit_at(s, at, keys, clients);
+        return short_commit_at(s, at, keys, clients, values);
     }
     if kind == 6 {
-        return short_shift_at(s, at, keys, clients);
+        return unsorted(short_shift_at(s, at, keys, clients));
     }
-    Reading::Refused(Why::Kind)
+    unsorted(Reading::Refused(Why::Kind))
+}
+
+// The record at a place of the file, where its operations are not asked for.
+pub fn reading_at(s: &[u8], at: usize, keys: usize, clients: usize) -> Reading
+    requires { ⌜ (at ≤ length (now s)) × (keys ≤ maxKeys) ⌝ }
+    ensures { λ r. ⌜ RecordSays (now (s .entry)) at keys clients r ⌝ }
+{
+    let mut values = [0u64; 2 * store::Store::KEYS];
+    let read = record_at(s, at, keys, clients, &mut values);
+    read.reading
 }
 
 // A record that is known to be in form, read again without a test.

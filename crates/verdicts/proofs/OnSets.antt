@@ -28,7 +28,7 @@ use Rattle.state.specs.Keeps.{IsSet, KeepsKeys, KeepsCommits, KeepsOperations, 
 use Rattle.state.proofs.Sets.{isSet-as, isSet-without}
 use Rattle.state.proofs.Ranks.{writes-rank}
 use Rattle.paths.specs.Path.{LeadsInto}
-use Rattle.views.specs.Gained.{WriterBelow}
+use Rattle.views.specs.Writing.{WriterBelow}
 use Rattle.verdicts.specs.Sources.{InKeys}
 use Rattle.verdicts.specs.Wants.{LacksSome, Wants}
 

@@ -18,7 +18,7 @@ use Rattle.growth.specs.Made.{Writer}
 use Rattle.growth.proofs.Views.{full-view, full-holds}
 use Rattle.state.specs.Keeps.{IsSet, KeepsKeys, KeepsMasks}
 use Rattle.state.proofs.Sets.{isSet-as}
-use Rattle.views.specs.Gained.{WriterBelow}
+use Rattle.views.specs.Writing.{WriterBelow}
 use Rattle.views.proofs.Tests.{has-as}
 
 -- ---- the masks are the full masks

@@ -7,7 +7,7 @@ use mathlib.Core.Option.{some, none}
 use mathlib.Core.List.{List}
 use native.Mathlib.Omega.{arith}
 use native.Mathlib.Decide.{decLe, decLt}
-use lib.Dec.{T, leb, T-not, not-T}
+use lib.Dec.{T, leb, T-not, not-T, eqb}
 use borrow.Author.Tests.{eq-eqb, ne-eqb}
 use Rattle.search.specs.Search.{any, least}
 use Rattle.search.proofs.Tests.{stable, same, and-is, le-is, or-left, or-right, or-cases}
@@ -103,6 +103,14 @@ module _ (mask view ranks k : ℕ) where
   pub strays-read : {r : Bool} → r ≡ true → r ≡ has ranks (2 * k) → false ≡ strays mask view ranks k
   unfolding strays
   strays-read t q = rw (← q, t)
+
+  pub strays-written : {w : Bool} → w ≡ true → w ≡ has ranks (2 * k + 1) → false ≡ strays mask view ranks k
+  unfolding strays
+  strays-written t q = rw (← q, t) (go (has ranks (2 * k)))
+    where
+      go : (a : Bool) → false ≡ (not (a || true) && not (eqb mask view))
+      go true = refl
+      go false = refl
 
   pub strays-unread : {r w : Bool} → mask ≢ view → r ≡ false → r ≡ has ranks (2 * k) → w ≡ has ranks (2 * k + 1) → not w ≡ strays mask view ranks k
   unfolding strays

@@ -33,7 +33,7 @@ use Rattle.views.specs.Prefix.{Downward, Prefixes, Lacks}
 use Rattle.views.proofs.Tests.{has-as}
 use Rattle.views.proofs.Codes.{mask-holds}
 use Rattle.views.proofs.Words.{writer-in}
-use Rattle.views.proofs.Grown.{exist, key-of}
+use Rattle.views.proofs.Differs.{exist, key-of}
 
 -- ---- a mask that has no digit in common with the next number
 

@@ -2,9 +2,8 @@ pub mod Tests
 pub mod Codes
 pub mod Looking
 pub mod Words
-pub mod Gathered
-pub mod Grown
-pub mod OpeningView
+pub mod Parted
+pub mod Differs
 pub mod AtOnce
 pub mod AddsOwn
 pub mod OwnView

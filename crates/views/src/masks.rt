@@ -1,25 +1,27 @@
 // The masks of a record, key by key.
 ghost use mathlib.Core.Path.{_≡_};
+ghost use mathlib.Core.Bool.{false};
 ghost use mathlib.Core.Logic.{_↔_};
 ghost use Prim.Native.Nat.{ℕ, _+_, _<_, _≤_};
 ghost use lib.Dec.{T};
 ghost use lib.ListN.{length, getD};
 ghost use mathlib.Core.List.{List};
-ghost use Rattle.sets.specs.Set.{union, without};
-ghost use Rattle.store.specs.Limits.{maxKeys, maxCommits, numbers};
-ghost use Rattle.store.specs.Store.{View, Store, Commit};
+ghost use Rattle.sets.specs.Set.{without};
+ghost use Rattle.store.specs.Limits.{maxKeys, numbers};
+ghost use Rattle.store.specs.Store.{View, Store, nextNumber, Commit};
+ghost use Rattle.store.specs.Update.{update};
 ghost use Rattle.store.specs.Missing.{missing};
 ghost use Rattle.store.specs.Refusal.{badMask, allOf, stray};
 ghost use Rattle.store.specs.View.{IsView};
 ghost use Rattle.growth.specs.Made.{Made};
 ghost use Rattle.state.specs.Places.{viewPlace, storedRow, clientRows};
-ghost use Rattle.state.specs.Room.{KeysRoom, ViewsRoom, FreshRoom};
-ghost use Rattle.state.specs.Keeps.{KeepsKeys, KeepsMasks, KeepsOperations};
+ghost use Rattle.state.specs.Room.{VersionsRoom, KeysRoom, ViewsRoom, FreshRoom};
+ghost use Rattle.state.specs.Keeps.{KeepsVersions, KeepsKeys, KeepsMasks, KeepsOperations};
 ghost use Rattle.state.specs.Answers.{placeOf, keyOf};
 ghost use Rattle.state.specs.Rows.{RowAt};
 ghost use Rattle.views.specs.Rows.{Moved, Kept};
 ghost use Rattle.views.specs.Strays.{strays};
-ghost use Rattle.views.specs.Own.{AddsOwn, ownMask};
+ghost use Rattle.views.specs.Own.{AddsOwn};
 
 // What is wrong with some mask, by code 10; 0 where nothing is. All keys are looked at, with no branch.
 fn wrong(fresh: &[u64], keys: &[u64], n: usize) -> u64
@@ -109,11 +111,45 @@ fn strays(mask: u64, view: u64, ranks: u64, k: state::Key) -> bool
     !sets::has(ranks, 2 * k.0 + 1)
 }
 
-// Code 14: the least key without operation where the masks are not the view at `base`.
+// What differs between a mask and the view's at a key without operation; 0 at a key with one.
+fn strayed(mask: u64, view: u64, ranks: u64, k: state::Key) -> u64
+    requires { ⌜ k .0 < maxKeys ⌝ }
+    ensures { λ r. ⌜ (r ≡ 0 → false ≡ strays mask view ranks (k .0)) ⌝ }
+{
+    if sets::has(ranks, 2 * k.0) {
+        return 0;
+    }
+    if sets::has(ranks, 2 * k.0 + 1) {
+        return 0;
+    }
+    mask ^ view
+}
+
+// What differs at some key without operation; 0 where nothing does. All keys are looked at, with no branch.
+fn astray(fresh: &[u64], views: &[u64], base: usize, ranks: u64, n: usize) -> u64
+    requires { ⌜ (n ≤ maxKeys) × FreshRoom (now fresh) × (base + n ≤ length (now views)) ⌝ }
+    ensures { λ r. ⌜ (r ≡ 0 → (k : ℕ) → k < n → false ≡ strays (getD (now (fresh .entry)) k 0) (getD (now (views .entry)) (base + k) 0) ranks k) ⌝ }
+{
+    let mut all = 0u64;
+    let mut k: usize = 0;
+    while k < n {
+        all = sets::union(
+            all,
+            strayed(fresh[k], views[base + k], ranks, state::Key(k)),
+        );
+        k = k + 1;
+    }
+    all
+}
+
+// Code 14: the least key without operation where the masks are not the view at `base`. It is looked for only where there is one.
 pub fn stray(fresh: &[u64], views: &[u64], base: usize, ranks: u64, n: usize) -> state::FoundKey
     requires { ⌜ (n ≤ maxKeys) × FreshRoom (now fresh) × (base + n ≤ length (now views)) ⌝ }
     ensures { λ r. ⌜ ((s : Store) (old : View) (c : Commit) (values : List ℕ) → s .keys ≡ n → RowAt n (now (views .entry)) base old → KeepsMasks n (c .viewAfter) (now (fresh .entry)) → KeepsOperations c ranks values → keyOf r ≡ stray s old c) ⌝ }
 {
+    if astray(fresh, views, base, ranks, n) == 0 {
+        return state::FoundKey::NoKey;
+    }
     let mut k: usize = 0;
     while k < n {
         if strays(fresh[k], views[base + k], ranks, state::Key(k)) {
@@ -138,41 +174,24 @@ pub fn same(fresh: &[u64], masks: &[u64], base: usize, n: usize) -> bool
     all == 0
 }
 
-// Where a mask is not the view's with the version that is appended to key k; `full` is the key's mask before. The version's bit is one more than
-// that; the sum wraps only where there are as many versions as a word has bits, which is so in no store with room for a commit.
-fn apart(mask: u64, view: u64, full: u64, ranks: u64, k: state::Key) -> u64
-    requires { ⌜ k .0 < maxKeys ⌝ }
-    ensures { λ r. ⌜ (r ≡ 0) ↔ (mask ≡ union view (ownMask full ranks (k .0))) ⌝ }
-{
-    let next = std::num::wrapping_add_u64(full, 1);
-    let own = if sets::has(ranks, 2 * k.0 + 1) {
-        next
-    } else {
-        0
-    };
-    mask ^ (view | own)
-}
-
-// Whether the masks are those at `base` with the versions that the commit appends, where the keys are those before the commit. All keys are looked
-// at, with no branch.
+// Whether the masks are those at `base` with the versions that the commit wrote, asked after it was made. All keys are looked at, with no branch.
 pub fn adds_own(
     fresh: &[u64],
     views: &[u64],
     base: usize,
-    keys: &[u64],
-    ranks: u64,
+    versions: &[u64],
     n: usize,
+    me: state::CommitNumber,
 ) -> bool
-    requires { ⌜ (n ≤ maxKeys) × FreshRoom (now fresh) × (base + n ≤ length (now views)) × KeysRoom (now keys) ⌝ }
-    ensures { λ r. ⌜ ((s : Store) (u : View) (c : Commit) (values : List ℕ) → Made s u c → s .commits < maxCommits → s .keys ≡ n → KeepsKeys s (now (keys .entry)) → RowAt n (now (views .entry)) base u → KeepsMasks n (c .viewAfter) (now (fresh .entry)) → KeepsOperations c ranks values → T r ↔ AddsOwn s u c) ⌝ }
+    requires { ⌜ (n ≤ maxKeys) × FreshRoom (now fresh) × (base + n ≤ length (now views)) × VersionsRoom (now versions) × (me .0 < numbers) ⌝ }
+    ensures { λ r. ⌜ ((s : Store) (u : View) (c : Commit) → Made s u c → nextNumber s ≡ me .0 → s .keys ≡ n → KeepsVersions (update s u c) (now (versions .entry)) → RowAt n (now (views .entry)) base u → KeepsMasks n (c .viewAfter) (now (fresh .entry)) → T r ↔ AddsOwn s u c) ⌝ }
 {
+    let row = state::OWNED + state::PER_COMMIT * me.0;
     let mut all = 0u64;
     let mut k: usize = 0;
     while k < n {
-        all = sets::union(
-            all,
-            apart(fresh[k], views[base + k], keys[k], ranks, state::Key(k)),
-        );
+        let own = sets::union(views[base + k], versions[row + k]);
+        all = sets::union(all, fresh[k] ^ own);
         k = k + 1;
     }
     all == 0

@@ -82,7 +82,7 @@ loop-again c =
       omega arith,
       omega arith,
       λ s d g. (
-        write-appended g _ h (omega arith) (omega arith) q _ _ (p s d g .0) (appending .append-at .ensures .0) (appending .append-at .ensures .1),
+        write-appended g _ h (omega arith) (omega arith) q _ _ (p s d g .0) (omega arith) (appending .append-at .ensures .0) (appending .append-at .ensures .1),
         earlier-turn g _ h (omega arith) (omega arith) q _ _ (p s d g .0) _ (p s d g .1) (joining .union .ensures),
       ),
     )

@@ -1,5 +1,5 @@
 -- `operations::append_at` meets its contract. Assumes nothing.
-use mathlib.Core.Path.{refl, _∙_}
+use mathlib.Core.Path.{_∙_}
 use borrow.Author.Needs.{needs}
 use Rattle.operations.proofs.append_at.Statement.{statement}
 use Rattle.operations.proofs.append_at.Tie as tie
@@ -28,6 +28,9 @@ head-of-requires c κs = search needs
 put-version-requires : tie.Need-put-version-requires
 put-version-requires c κs = search needs
 
+own-version-requires : tie.Need-own-version-requires
+own-version-requires c κs = search needs
+
 grow-key-requires : tie.Need-grow-key-requires
 grow-key-requires c κs = search needs
 
@@ -38,10 +41,14 @@ same-length-2 : tie.Need-same-length-2
 same-length-2 c = search needs
 
 returns : tie.Need-returns
-returns c = (
-  c .before .before .before .before .before .before .put-version .ensures ∙ rw (c .before .before .before .before .before .before .before .before .before .before .newest .ensures .0, c .before .before .before .before .before .before .before .before .before .before .before .wrapping-add-u64 .ensures, c .before .before .before .before .before .before .before .head-of .ensures) refl,
-  c .before .before .grow-key .ensures ∙ rw (c .before .before .before .before .before .before .before .before .before .before .before .wrapping-add-u64 .ensures) refl,
-)
+returns c =
+    let owning = c .before .before .before .before .before .before in
+    let putting = owning .before .before .before .before in
+    let next = putting .before .before .before .before in
+    let bit = next .before .wrapping-add-u64 .ensures in (
+      owning .own-version .ensures ∙ rw (putting .put-version .ensures, next .newest .ensures .0, putting .before .head-of .ensures, bit),
+      c .before .before .grow-key .ensures ∙ rw bit,
+    )
 
 pub append-at-spec : {M : Type 1} → statement M
 append-at-spec =
@@ -55,6 +62,7 @@ append-at-spec =
     add-at
     head-of-requires
     put-version-requires
+    own-version-requires
     grow-key-requires
     same-length
     same-length-2

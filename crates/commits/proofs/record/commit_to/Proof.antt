@@ -3,15 +3,16 @@ use mathlib.Core.Path.{refl}
 use native.Mathlib.Omega.{arith}
 use Rattle.shifts.proofs.Refused.{not-taken}
 use Rattle.commits.specs.Records.{commitIn}
+use Rattle.commits.proofs.Begun.{operations-read}
 use Rattle.commits.proofs.Cases.{old-is}
 use Rattle.commits.proofs.Turns.{refused-old}
 use borrow.Author.Needs.{needs}
 use Rattle.commits.proofs.record.commit_to.Statement.{statement}
 use Rattle.commits.proofs.record.commit_to.Tie as tie
 
--- where the function begins, from where the commit was read
-abbrev entry : tie.After-begin → tie.Start
-entry c = c .before .before .before .before .before .before .before .before .before .before .before .before .before .before .before .before .before
+-- where the function begins, from where its view after was read
+abbrev entry : tie.After-view-after → tie.Start
+entry c = c .before .before .before .before .before .before .before .before .before .before .before .before .before .before .before .before
 
 cast-if1 : tie.Need-cast-if1
 cast-if1 c = search needs
@@ -40,12 +41,12 @@ returns c =
       kept = not-taken _ refl;
     }
 
-begin-requires : tie.Need-begin-requires
-begin-requires c κs = search needs
+view-after-requires : tie.Need-view-after-requires
+view-after-requires c κs = search needs
 
 complete-requires : tie.Need-complete-requires
 complete-requires c κs =
-    let p = entry (c .before .before .before .before .before .before .before .before .before .before .before .before .before .before) .pre in
+    let p = entry (c .before .before .before .before .before .before .before .before .before .before .before) .pre in
     ((p .0 .0, p .0 .1, p .0 .3, p .0 .2, omega arith, omega arith, p .1 .0 .2), p .1 .1)
 
 same-length : tie.Need-same-length
@@ -75,25 +76,22 @@ same-length-8 c = search needs
 same-length-9 : tie.Need-same-length-9
 same-length-9 c = search needs
 
-same-length-10 : tie.Need-same-length-10
-same-length-10 c = search needs
-
 returns-2 : tie.Need-returns-2
 returns-2 c =
     let completed = c .before .before .before .before .before .before .before .before .before .before .before .before .before .before .before .before in
-    let begun = completed .before .before .before .before .before .before .before .before .before .before .before .before .before .before .before in
-    let a = entry begun .args in
+    let read = completed .before .before .before .before .before .before .before .before .before .before .before .before in
+    let a = entry read .args in
+    let p = entry read .pre in
     λ g clients fs r number small verdicts.
-    let h = begun .begin .ensures g clients _ _ _ _ _ _ r small in
     let k = commitIn g (a .file .now) (a .at) (a .n) in
     completed .complete .ensures g k clients fs (record {
       recorded = r;
       client-is = refl;
       session-is = refl;
       number-is = number;
-      operations = h .operations;
-      masks = h .masks;
-      new-number = λ t. let l = old-is (g .store) k (a .sessions .now) (r .keeps .in-sessions) (entry begun .pre .0 .3) .0 t in omega arith;
+      operations = operations-read (a .file .now) (a .at .operations) (a .at .count) (a .at .ranks) (a .values .now) k (p .0 .5 .0) refl (p .1 .0 .0) small;
+      masks = read .view-after .ensures g clients _ _ _ _ _ _ r;
+      new-number = λ t. let l = old-is (g .store) k (a .sessions .now) (r .keeps .in-sessions) (p .0 .3) .0 t in omega arith;
     })
     verdicts
 
@@ -107,7 +105,7 @@ commit-to-spec =
     slice-read-if1
     of-record-requires
     returns
-    begin-requires
+    view-after-requires
     complete-requires
     same-length
     same-length-2
@@ -118,5 +116,4 @@ commit-to-spec =
     same-length-7
     same-length-8
     same-length-9
-    same-length-10
     returns-2)

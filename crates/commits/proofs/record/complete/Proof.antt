@@ -20,11 +20,11 @@ use Rattle.commits.proofs.record.complete.Tie as tie
 
 -- where the function begins, from where the commit is made
 abbrev entry : tie.After-make → tie.Start
-entry c = c .before .before .before .before .before .before .before .before .before .before .before .before .before .before .before .before .before .before .before .before .before .before .before .before .before .before .before .before .before .before
+entry c = c .before .before .before .before .before .before .before .before .before .before .before .before .before .before .before .before .before .before .before .before .before .before .before .before .before .before .before
 
 -- where it is, from where its view after was tested
 abbrev made : tie.After-late → tie.After-make
-made c = c .before .before .before .before .before .before .before .before .before .before .before .before .before .before .before .before .before .before .before
+made c = c .before .before .before .before .before .before .before .before .before .before .before .before .before .before .before .before .before .before .before .before .before .before
 
 -- what is said of the making
 said : (c : tie.After-make) (g : Configuration) (e : Commit) (clients : ℕ) → let a = entry c .args in
@@ -37,12 +37,6 @@ said c g e clients ready =
     c .make .ensures (g .store) (viewBefore g e) e (commit-given ready) (ready .number-is) (ready .session-is) (keeps .in-commits) follows
 
 -- ---- what is needed
-
-mul-adds-own : tie.Need-mul-adds-own
-mul-adds-own c = search needs
-
-adds-own-requires : tie.Need-adds-own-requires
-adds-own-requires c κs = search needs
 
 mul-wanted-by : tie.Need-mul-wanted-by
 mul-wanted-by c = search needs
@@ -58,7 +52,7 @@ wanted-by-requires c κs = search needs
 
 make-requires : tie.Need-make-requires
 make-requires c κs =
-    let p = c .before .before .before .before .before .before .before .before .before .before .before .before .before .before .before .before .before .before .before .before .before .before .before .before .before .before .before .before .before .pre in
+    let p = c .before .before .before .before .before .before .before .before .before .before .before .before .before .before .before .before .before .before .before .before .before .before .before .before .before .before .pre in
     let room = p .1 in
     ((p .0 .1, p .0 .2, p .0 .3, room .of-versions, room .of-keys, room .of-views), (room .of-sessions, room .of-commits, omega (arith, room .of-links), p .0 .4))
 
@@ -101,9 +95,18 @@ returns c =
 enum-told : tie.Need-enum-told
 enum-told c = search needs
 
+mul-adds-own : tie.Need-mul-adds-own
+mul-adds-own c = let p = entry (c .before .before .before .before .before .before .before .before .before .before .before .before .before) .pre .0 .2 in record { fits = omega arith }
+
+adds-own-requires : tie.Need-adds-own-requires
+adds-own-requires c κs =
+    let p = entry (c .before .before .before .before .before .before .before .before .before .before .before .before .before .before) .pre in
+    let client = p .0 .2 in
+    (p .0 .1, p .0 .5, omega (arith, p .1 .of-views), omega arith, p .0 .3)
+
 late-requires : tie.Need-late-requires
 late-requires c κs =
-    let p = entry (c .before .before .before .before .before .before .before .before .before .before .before .before .before .before .before .before .before .before) .pre in
+    let p = entry (c .before .before .before .before .before .before .before .before .before .before .before .before .before .before .before .before .before .before .before .before .before) .pre in
     (p .0 .0, p .0 .1, p .0 .2, p .0 .3, omega arith, omega arith, omega arith, p .0 .5, p .1 .of-views, p .1 .of-seen, p .0 .6)
 
 same-length-8 : tie.Need-same-length-8
@@ -125,7 +128,7 @@ same-length-13 : tie.Need-same-length-13
 same-length-13 c = search needs
 
 same-length-14 : tie.Need-same-length-14
-same-length-14 c = c .before .before .before .before .before .before .before .before .before .before .before .before .before .before .before .before .links2 .given ∙ c .before .before .before .before .before .before .before .before .before .before .before .before .before .before .before .before .before .before .before .before .before .before .before .before .before .before .before .before .before .before .before .before .before .links .given
+same-length-14 c = c .before .before .before .before .before .before .before .before .before .before .before .before .before .before .before .before .before .before .before .links2 .given ∙ c .before .before .before .before .before .before .before .before .before .before .before .before .before .before .before .before .before .before .before .before .before .before .before .before .before .before .before .before .before .before .before .before .before .before .before .before .links .given
 
 same-length-15 : tie.Need-same-length-15
 same-length-15 c = search needs
@@ -134,13 +137,13 @@ returns-2 : tie.Need-returns-2
 returns-2 c =
     let judged = c .before .before .before .before .before .before in
     let m = made judged in
-    let told = judged .before .before .before .before .before .before .before .enum-told .given .1 in
+    let told = judged .before .before .before .before .before .before .before .before .before .before .enum-told .given .1 in
     let wanted = m .before .before .before .before .before .before .before .before .before .wanted-by in
-    let added = m .before .before .before .before .before .before .before .before .before .before .before .before .before .before .before .before .before .adds-own in
+    let added = judged .before .before .before .before .before .before .before .adds-own in
     λ g e clients fs ready verdicts.
     let x = said m g e clients ready in
     let kept = x .1 told in
-    let adds = plain-is ready (added .result) (added .ensures) in
+    let adds = plain-is ready kept (added .result) (added .ensures) in
     let found = wanted .ensures .0 (g .store) (viewBefore g e) e (entry m .args .values .now) (before-commit ready) in
     let says = judged .late .ensures g e (entry m .args .values .now) fs (late-given ready kept) (judge-given ready kept _ _ adds found (wanted .ensures .1 .0)) verdicts in
     record {
@@ -153,8 +156,6 @@ pub complete-spec : {M : Type 1} → statement M
 complete-spec =
     tie.close
     (tie.spec
-    mul-adds-own
-    adds-own-requires
     mul-wanted-by
     mul-wanted-by-2
     slice-read-wanted-by
@@ -171,6 +172,8 @@ complete-spec =
     same-length-7
     returns
     enum-told
+    mul-adds-own
+    adds-own-requires
     late-requires
     same-length-8
     same-length-9

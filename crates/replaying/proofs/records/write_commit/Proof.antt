@@ -61,8 +61,8 @@ returns c =
       put .put-commit .ensures .0 ∙ omega arith,
       λ r u full.
           let made : Commit = record { client = a .client; session = a .session; operations = operationsAt (now (a .file)) (a .operations) (a .count); viewAfter = u } in
-          let after = full-after r made (a .n) (now (a .full)) full _ _ (sort .sort-operations .ensures .0 write) (grown .grow .last .0) (grown .grow .ensures) in
-          let row = row-written r made (a .n) (now (a .full)) full _ _ (sort .sort-operations .ensures .0 write) (grown .grow .last .0) (grown .grow .ensures) in
+          let after = full-after r made (a .n) (now (a .full)) full _ _ (sort .sort-operations .ensures write) (grown .grow .last .0) (grown .grow .ensures) in
+          let row = row-written r made (a .n) (now (a .full)) full _ _ (sort .sort-operations .ensures write) (grown .grow .last .0) (grown .grow .ensures) in
           record {
             put = put-both (a .n) r made (now (a .buffer)) (a .at) next (omega (arith, start .pre .0 .4)) (shift .put-shift .ensures .1 _ (full .row)) (put .put-commit .ensures .1 _ row);
             full = after;

@@ -2,7 +2,7 @@
 use mathlib.Core.Path.{subst}
 use native.Mathlib.Omega.{arith}
 use Rattle.run.specs.OneRecord.{Readable}
-use Rattle.run.proofs.OneRecord.{shift-one, commit-one}
+use Rattle.run.proofs.OneRecord.{shift-one, sorted-in, commit-one}
 use borrow.Author.Needs.{needs}
 use Rattle.run.proofs.one.one_record.Statement.{statement}
 use Rattle.run.proofs.one.one_record.Tie as tie
@@ -36,10 +36,10 @@ add-next c =
 
 commit-to-requires : tie.Need-commit-to-requires
 commit-to-requires c κs =
-    let commit = c .before .before .before .before .before .before .before .before .before .before .before in
+    let commit = c .before .before .before .before .before .before .before .before .before .before in
     let p = before-commit commit .pre in
     let (below, masks, operations, room) = subst (Readable _ _ _) (commit .r2 .given .1) (before-commit commit .pre .0 .2) in
-    ((p .0 .0, p .0 .1, omega arith, below, masks, operations), p .1)
+    ((p .0 .0, p .0 .1, omega arith, below, masks, sorted-in _ (before-commit commit .args .n) (record { client = _; count = _; session = _; operations = _; ranks = before-commit commit .args .ranks; listing = _ }) (before-commit commit .args .made) (commit .r2 .given .1) _ (p .0 .3)), p .1)
 
 same-length : tie.Need-same-length
 same-length c = search needs
@@ -89,16 +89,13 @@ same-length-13 c = search needs
 same-length-14 : tie.Need-same-length-14
 same-length-14 c = search needs
 
-same-length-15 : tie.Need-same-length-15
-same-length-15 c = search needs
-
 returns-2 : tie.Need-returns-2
 returns-2 c =
-    let called = c .before .before .before .before .before .before .before .before .before .before .before .before .before .before .before .before .before .before .before .before in
-    let commit = called .before .before .before .before .before .before .before .before .before .before .before .before in
+    let called = c .before .before .before .before .before .before .before .before .before .before .before .before .before .before .before .before .before .before in
+    let commit = called .before .before .before .before .before .before .before .before .before .before .before in
     let (below, masks, operations, room) = subst (Readable _ _ _) (commit .r2 .given .1) (before-commit commit .pre .0 .2) in
     λ g fs clients f s.
-    commit-one _ _ (record { client = _; count = _; session = _; operations = _; listing = _ }) _ (commit .r2 .given .1) _ _ _ (called .commit-to .ensures) g fs s room clients f
+    commit-one _ _ (record { client = _; count = _; session = _; operations = _; ranks = before-commit commit .args .ranks; listing = _ }) _ (commit .r2 .given .1) _ _ _ (called .commit-to .ensures) g fs s room clients f
 
 pub one-record-spec : {M : Type 1} → statement M
 one-record-spec =
@@ -124,5 +121,4 @@ one-record-spec =
     same-length-12
     same-length-13
     same-length-14
-    same-length-15
     returns-2)

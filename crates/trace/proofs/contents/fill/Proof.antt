@@ -2,6 +2,7 @@
 use mathlib.Core.Path.{_∙_}
 use native.Mathlib.Omega.{arith}
 use Rattle.sets.proofs.Laws.{has-lt}
+use Rattle.sets.proofs.Counting.{size-howMany}
 use Rattle.trace.proofs.Filling.{every-fits, every-put, only-fits, only-lists, all-fit, all-put, touched-fits, touched-room, touched-below, touched-lists, row-put, row-kept}
 use borrow.Author.Needs.{needs}
 use Rattle.trace.proofs.contents.fill.Statement.{statement}
@@ -48,7 +49,7 @@ listed-into-requires-2 c κs =
     let is = c .before .before .before .before .before .before .before .l3 .given .1 in
     let bytes = c .before .before .before .before .before .before .before .before .before .before .before .shared-slice-known .given in
     let keys = c .before .before .before .before .before .touched-keys in (
-      touched-room _ _ _ is (b .pre .0) (λ i. bytes i .fits) (keys .ensures) (b .pre .3) (omega (arith, keys .ok)),
+      omega (arith, touched-room _ _ _ is (b .pre .0) (λ i. bytes i .fits) (keys .ensures) 64 (omega arith), size-howMany 64 (keys .result) (omega (arith, keys .ok))),
       λ k t. let below = touched-below _ _ _ is (b .pre .0) (λ i. bytes i .fits) (keys .ensures) k t in omega arith,
     )
 

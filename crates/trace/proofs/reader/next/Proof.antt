@@ -1,4 +1,4 @@
--- `trace::reader::next` meets its contract: a walk of its MIR by hand. The borrow of the reader is opened, `record_at` is called on the slice and the
+-- `trace::reader::next` meets its contract: a walk of its MIR by hand. The borrow of the reader is opened, `reading_at` is called on the slice and the
 -- number that it holds, the number becomes what `place_after` says, and the borrow is closed at the reader that stands there.
 -- What src owns is Copy: it is had twice, once for the callee, beside its lifetime's token, which comes back. Assumes nothing.
 use mathlib.Core.Path.{_≡_, refl, ap}
@@ -54,10 +54,10 @@ use Rattle.trace.proofs.reader.Reader as T
 use Rattle.trace.proofs.reader.Reader.Laws as T′
 use Rattle.trace.proofs.records.Reading as S
 use Rattle.trace.proofs.records.Reading.Laws as S′
-use Rattle.trace.proofs.records.record_at as record-at
-use Rattle.trace.proofs.records.record_at.Symbol as record-at-def
-use Rattle.trace.proofs.records.record_at.Symbol.{name as #record-at}
-use Rattle.trace.proofs.records.record_at.Met as record-at-thm
+use Rattle.trace.proofs.records.reading_at as reading-at
+use Rattle.trace.proofs.records.reading_at.Symbol as reading-at-def
+use Rattle.trace.proofs.records.reading_at.Symbol.{name as #reading-at}
+use Rattle.trace.proofs.records.reading_at.Met as reading-at-thm
 use Rattle.trace.proofs.records.place_after as place-after
 use Rattle.trace.proofs.records.place_after.Symbol as place-after-def
 use Rattle.trace.proofs.records.place_after.Symbol.{name as #place-after}
@@ -76,8 +76,8 @@ stayed = (stay-ref (0 ∷ []) tt behind, (stay-none (λ _. usize) yes, (stay-non
 
 module _ {M : Type 1} (𝓤 : URA M) (H : Heap 𝓤) (A : Atoms 𝓤) (mem : Memory → SProp 𝓤) (run : Routine → Fun 𝓤) where
   -- the contracts that the proof cites
-  abbrev RecordAt : Contract 𝓤
-  RecordAt = tripleOf 𝓤 H A record-at.signature (record-at.spec 𝓤 H A mem run)
+  abbrev ReadingAt : Contract 𝓤
+  ReadingAt = tripleOf 𝓤 H A reading-at.signature (reading-at.spec 𝓤 H A mem run)
 
   abbrev PlaceAfter : Contract 𝓤
   PlaceAfter = tripleOf 𝓤 H A place-after.signature (place-after.spec 𝓤 H A mem run)
@@ -129,27 +129,27 @@ module _ {M : Type 1} (𝓤 : URA M) (H : Heap 𝓤) (A : Atoms 𝓤) (W : Given
   abbrev vd : Values (D .parts)
   vd = (d .src, (d .at, tt))
 
-  -- the call of `record_at`: what it is passed, what it asks, and what is known of its result
-  abbrev passed : Vals record-at.signature (κ′, tt)
+  -- the call of `reading_at`: what it is passed, what it asks, and what is known of its result
+  abbrev passed : Vals reading-at.signature (κ′, tt)
   passed = (v ∷ [], (vint w64 (d .at) ∷ [], (vint w64 k ∷ [], (vint w64 c ∷ [], tt))))
 
-  abbrev to-record : RecordAt 𝓤 H A at-mem run .Ghost
+  abbrev to-record : ReadingAt 𝓤 H A at-mem run .Ghost
   to-record = (((κ′, tt), (q′, tt), tt, (d .src, (d .at, (k, (c, tt)))), passed), tt)
 
-  asked : ent 𝓤 (onEntry 𝓤 H A record-at.signature (κ′, tt) (q′, tt) (d .src, (d .at, (k, (c, tt)))) passed) (RecordAt 𝓤 H A at-mem run .pre to-record)
+  asked : ent 𝓤 (onEntry 𝓤 H A reading-at.signature (κ′, tt) (q′, tt) (d .src, (d .at, (k, (c, tt)))) passed) (ReadingAt 𝓤 H A at-mem run .pre to-record)
   asked = qed W ((‵ (flft κ′ q′) ⊛ ‵ ftrue) ∷ ‵ (owns (ShrSlice (named 0) κ′ u8 ∷ usize ∷ usize ∷ usize ∷ []) (d .src, (d .at, (k, (c, tt)))) passed) ∷ []) ∵ says ! within $ frame ! $ done !
 
   -- what the struct owns gives what the callee asks, and is kept
-  apart : d .at < 2 ^ 64 → ent 𝓤 (⋆ 𝓤 H A (‵ Own ∷ (‵ (flft κ′ q′) ⊛ ‵ ftrue) ∷ [])) (sep 𝓤 (RecordAt 𝓤 H A at-mem run .pre to-record) (sem 𝓤 H A Own))
+  apart : d .at < 2 ^ 64 → ent 𝓤 (⋆ 𝓤 H A (‵ Own ∷ (‵ (flft κ′ q′) ⊛ ‵ ftrue) ∷ [])) (sep 𝓤 (ReadingAt 𝓤 H A at-mem run .pre to-record) (sem 𝓤 H A Own))
   apart fits =
       qed W (‵ Own ∷ (‵ (flft κ′ q′) ⊛ ‵ ftrue) ∷ []) ∵ use1 W (‵ Own ⊛ ‵ Own) (LL.copy D (T′.the-copy α) 𝓤 H A W .twice d (mach ∷ [])) $ split ! $
       use1 W (given (mach ∷ [] ≡ mach ∷ []) (‵ (all-own (D .parts) L vd))) (own-open 𝓤 H A W D L vd mach) $ learn ! (λ _. use1 W (‵ (ownAt (D .parts) L 0 (d .src)) ⊛ ‵ (rest (D .parts) L 0 vd)) (own-out 𝓤 H A W (D .parts) L 0 vd) $ split ! $
       -- [what src owns; what at owns; what the struct owns; the token]
       move ! (1 ∷ []) $ drop ! $ nothing ! $ owned ! usize (Is usize) (uint-makes 𝓤 H A W w64) c _ (refl, okc) $ fjoin ! $ owned ! usize (Is usize) (uint-makes 𝓤 H A W w64) k _ (refl, okk) $ fjoin ! $ owned ! usize (Is usize) (uint-makes 𝓤 H A W w64) (d .at) _ (refl, fits) $ fjoin ! $ move ! (1 ∷ 0 ∷ []) $ fjoin ! $
-      move ! (2 ∷ 0 ∷ []) $ use2 W (raw (RecordAt 𝓤 H A at-mem run .pre to-record)) asked $ frame ! $ done !)
+      move ! (2 ∷ 0 ∷ []) $ use2 W (raw (ReadingAt 𝓤 H A at-mem run .pre to-record)) asked $ frame ! $ done !)
 
-  found : (r : Reading) → ent 𝓤 (ensured 𝓤 H A record-at.ended (record-at.clauses 𝓤 H A at-mem run) (κ′, tt) (d .src, (d .at, (k, (c, tt)))) tt r) (fact 𝓤 (Found r))
-  found r = exE 𝓤 _ (λ ws. snd∗ 𝓤 (sem 𝓤 H A (lasts record-at.ended (κ′, tt) (d .src, (d .at, (k, (c, tt)))) ws)) (fact 𝓤 (Found r)))
+  found : (r : Reading) → ent 𝓤 (ensured 𝓤 H A reading-at.ended (reading-at.clauses 𝓤 H A at-mem run) (κ′, tt) (d .src, (d .at, (k, (c, tt)))) tt r) (fact 𝓤 (Found r))
+  found r = exE 𝓤 _ (λ ws. snd∗ 𝓤 (sem 𝓤 H A (lasts reading-at.ended (κ′, tt) (d .src, (d .at, (k, (c, tt)))) ws)) (fact 𝓤 (Found r)))
 
   -- the call of `place_after`, at the record r with the machine value u
   abbrev to-place : Reading → Val → PlaceAfter 𝓤 H A at-mem run .Ghost
@@ -176,7 +176,7 @@ module _ {M : Type 1} (𝓤 : URA M) (H : Heap 𝓤) (A : Atoms 𝓤) (W : Given
       nothing ! $ owned ! usize (Is usize) (uint-makes 𝓤 H A W w64) c _ (refl, okc) $ fjoin ! $ owned ! usize (Is usize) (uint-makes 𝓤 H A W w64) k _ (refl, okk) $ fjoin ! $ move ! (1 ∷ 0 ∷ []) $ fjoin ! $
       owned ! S.the-row (Is S.the-row) (EL.makes S.the-type S′.the-plain 𝓤 H A) r _ is $ move ! (1 ∷ 0 ∷ []) $ done !
 
-  module _ (C : Calls 𝓤 H) (Λ : Loops 𝓤 H) (fm : FmC 𝓤 H (W .laws) C) (known-record : Triple 𝓤 (C #record-at) (RecordAt 𝓤 H A at-mem run)) (known-place : Triple 𝓤 (C #place-after) (PlaceAfter 𝓤 H A at-mem run)) where
+  module _ (C : Calls 𝓤 H) (Λ : Loops 𝓤 H) (fm : FmC 𝓤 H (W .laws) C) (known-record : Triple 𝓤 (C #reading-at) (ReadingAt 𝓤 H A at-mem run)) (known-place : Triple 𝓤 (C #place-after) (PlaceAfter 𝓤 H A at-mem run)) where
     walk : ent 𝓤 (onEntry 𝓤 H A next.signature (κ, (κ′, tt)) (q, (q′, tt)) a vals) (WpFn 𝓤 H C Λ code.function (vptr b o ∷ vint w64 k ∷ vint w64 c ∷ []) Post)
     walk =
         qed W ((‵ (flft κ q) ⊛ ‵ (flft κ′ q′) ⊛ ‵ ftrue) ∷ ‵ (owns (MutRef (named 0) κ R ∷ usize ∷ usize ∷ []) a vals) ∷ []) ∵ enter ! C Λ code.function (vptr b o ∷ vint w64 k ∷ vint w64 c ∷ []) _ $
@@ -189,9 +189,9 @@ module _ {M : Type 1} (𝓤 : URA M) (H : Heap 𝓤) (A : Atoms 𝓤) (W : Given
         -- [the struct's cell; what a Reader owns; the open borrow; obs; auth; 'a's token; the numbers'; _7; …; _6; …; _5; …; _4; …; _3; …; _2; …; _1; …; room for _0; …]
         assigns ! (of-opd ! (load ! (from ! (hop ! (look ! 19 refl) (fld ! refl (stop !)))) (look-in ! 0 (sub ! 0 refl (whole !))))) (from ! (stop !)) (init ! 11 refl (tt, LL.lawful (T.the-type αᵉ) (T′.the-laws αᵉ) 𝓤 H A W .typed d _ was .0 .1 .0)) $
         assigns ! (of-opd ! (load ! (from ! (hop ! (look ! 19 refl) (fld ! refl (stop !)))) (look-in ! 0 (sub ! 1 refl (whole !))))) (from ! (stop !)) (init ! 9 refl (tt, record { fits = was .1 .1 .1 .0 .1 })) $
-        move ! (1 ∷ 5 ∷ []) $ use2 W (raw (RecordAt 𝓤 H A at-mem run .pre to-record) ⊛ ‵ Own) (apart (was .1 .1 .1 .0 .1)) $ split ! $
-        calls-at ! fm (RecordAt 𝓤 H A at-mem run) known-record to-record (and-then ! (load ! (from ! (stop !)) (look ! 11 refl)) (and-then ! (load ! (from ! (stop !)) (look ! 9 refl)) (and-then ! (load ! (from ! (stop !)) (look ! 17 refl)) (and-then ! (load ! (from ! (stop !)) (look ! 15 refl)) (no-more !))))) (λ u.
-        use1 W (later (some (λ (r : Reading). ((‵ (flft κ′ q′) ⊛ ‵ ftrue) ⊛ ‵ (S.the-row .own r (u ∷ []))) ⊛ raw (ensured 𝓤 H A record-at.ended (record-at.clauses 𝓤 H A at-mem run) (κ′, tt) (d .src, (d .at, (k, (c, tt)))) tt r)))) (id⊢ 𝓤 _) $ await ! tt $ pick ! (λ r.
+        move ! (1 ∷ 5 ∷ []) $ use2 W (raw (ReadingAt 𝓤 H A at-mem run .pre to-record) ⊛ ‵ Own) (apart (was .1 .1 .1 .0 .1)) $ split ! $
+        calls-at ! fm (ReadingAt 𝓤 H A at-mem run) known-record to-record (and-then ! (load ! (from ! (stop !)) (look ! 11 refl)) (and-then ! (load ! (from ! (stop !)) (look ! 9 refl)) (and-then ! (load ! (from ! (stop !)) (look ! 17 refl)) (and-then ! (load ! (from ! (stop !)) (look ! 15 refl)) (no-more !))))) (λ u.
+        use1 W (later (some (λ (r : Reading). ((‵ (flft κ′ q′) ⊛ ‵ ftrue) ⊛ ‵ (S.the-row .own r (u ∷ []))) ⊛ raw (ensured 𝓤 H A reading-at.ended (reading-at.clauses 𝓤 H A at-mem run) (κ′, tt) (d .src, (d .at, (k, (c, tt)))) tt r)))) (id⊢ 𝓤 _) $ await ! tt $ pick ! (λ r.
         split ! $ move ! (1 ∷ []) $ use1 W (raw (fact 𝓤 (Found r))) (found r) $ heard ! (Found r) (λ e. split ! $ move ! (1 ∷ []) $
         peeks ! S.the-row (Is S.the-row) (shows 𝓤 H A S.the-row) r (u ∷ []) (λ is.
         land ! (from ! (stop !)) (init ! 14 refl (EL.lawful S.the-type S′.the-laws 𝓤 H A W tt .typed r _ is .0)) $ drop ! $
@@ -215,13 +215,13 @@ module _ {M : Type 1} (𝓤 : URA M) (H : Heap 𝓤) (A : Atoms 𝓤) (W : Given
         keep ! (0 ∷ 1 ∷ 2 ∷ 3 ∷ []) $ by ! (exits r u n is e p)))))))))))))))))))
 
 module _ {M : Type 1} (𝓤 : URA M) (H : Heap 𝓤) (A : Atoms 𝓤) (W : Given 𝓤 H A) (mem : Memory → SProp 𝓤) (run : Routine → Fun 𝓤) where
-  next-walks : (C : Calls 𝓤 H) (Λ : Loops 𝓤 H) → FmC 𝓤 H (W .laws) C → Triple 𝓤 (C #record-at) (RecordAt 𝓤 H A mem run) → Triple 𝓤 (C #place-after) (PlaceAfter 𝓤 H A mem run)
+  next-walks : (C : Calls 𝓤 H) (Λ : Loops 𝓤 H) → FmC 𝓤 H (W .laws) C → Triple 𝓤 (C #reading-at) (ReadingAt 𝓤 H A mem run) → Triple 𝓤 (C #place-after) (PlaceAfter 𝓤 H A mem run)
       → Walks 𝓤 H A next.ended stayed (WpFn 𝓤 H C Λ code.function) (next.clauses 𝓤 H A mem run)
   next-walks C Λ fm known-record known-place = walked 𝓤 H A next.ended stayed (next.clauses 𝓤 H A mem run) (WpFn 𝓤 H C Λ code.function) (λ κs. (ptr-vals, (uint-vals w64, (uint-vals w64, tt)))) (λ κs. (mut-tells (named 0) (κs .0) (T.the-row (namedLft 2 1 tt κs)), (uint-tells w64, (uint-tells w64, tt))))
       (λ κs qs bounds a g are. needs 𝓤 _ _ (λ within. walk 𝓤 H A W mem run (κs .0) (κs .1 .0) (qs .0) (qs .1 .0) bounds (a .0 .ptr .0) (a .0 .ptr .1) (a .0 .name) (a .0 .now) (a .1 .0) (a .1 .1 .0) (are .1 .0 .1) (are .1 .1 .0 .1) within C Λ fm known-record known-place))
 
 next-meets : {M : Type 1} (𝓤 : URA M) (H : Heap 𝓤) (A : Atoms 𝓤) (W : Given 𝓤 H A) (mem : Memory → SProp 𝓤) (run : Routine → Fun 𝓤) (𝓣 : Tables 𝓤 H)
-    → Triple 𝓤 (𝓣 .C #record-at) (RecordAt 𝓤 H A mem run) → Triple 𝓤 (𝓣 .C #place-after) (PlaceAfter 𝓤 H A mem run)
+    → Triple 𝓤 (𝓣 .C #reading-at) (ReadingAt 𝓤 H A mem run) → Triple 𝓤 (𝓣 .C #place-after) (PlaceAfter 𝓤 H A mem run)
     → Meets 𝓤 H A next.signature (WpFn 𝓤 H (𝓣 .C) (𝓣 .Λ) code.function) (next.spec 𝓤 H A mem run)
 next-meets 𝓤 H A W mem run 𝓣 known-record known-place = walk-meets 𝓤 H A next.ended stayed W (goes-ref 𝓤 H A W 2 0 tt behind, (goes-none 𝓤 H A W 2 (λ _. usize) yes (λ κs x f. refl), (goes-none 𝓤 H A W 2 (λ _. usize) yes (λ κs x f. refl), tt))) (next.clauses 𝓤 H A mem run) (WpFn 𝓤 H (𝓣 .C) (𝓣 .Λ) code.function) (WpFn-mono 𝓤 H (W .laws) 𝓣 code.function)
     (next-walks 𝓤 H A W mem run (𝓣 .C) (𝓣 .Λ) (fmOf 𝓤 H (W .laws) 𝓣) known-record known-place)
@@ -232,5 +232,5 @@ next-spec 𝓤 H 𝓜 𝓖 𝓡 =
     entered 𝓤 H (tripleOf 𝓤 H (𝓖 .A) next.signature (next.spec 𝓤 H (𝓖 .A) (𝓜 .mem) (𝓡 .run)))
     (tables 𝓤 H 𝓜 𝓡 code.env .C) (tables 𝓤 H 𝓜 𝓡 code.env .Λ) #next code.function (code.unfolded 𝓤 H 𝓜 𝓡)
     (next-meets 𝓤 H (𝓖 .A) (givenOf 𝓤 H 𝓜 𝓖) (𝓜 .mem) (𝓡 .run) (tablesOf 𝓤 H 𝓜 (tables 𝓤 H 𝓜 𝓡 code.env))
-    (cited 𝓤 H (RecordAt 𝓤 H (𝓖 .A) (𝓜 .mem) (𝓡 .run)) 𝓜 𝓡 code.env #record-at record-at-def.routine code.calls-trace·records·record-at (record-at-thm.met 𝓤 H 𝓜 𝓖 𝓡))
+    (cited 𝓤 H (ReadingAt 𝓤 H (𝓖 .A) (𝓜 .mem) (𝓡 .run)) 𝓜 𝓡 code.env #reading-at reading-at-def.routine code.calls-trace·records·reading-at (reading-at-thm.met 𝓤 H 𝓜 𝓖 𝓡))
     (cited 𝓤 H (PlaceAfter 𝓤 H (𝓖 .A) (𝓜 .mem) (𝓡 .run)) 𝓜 𝓡 code.env #place-after place-after-def.routine code.calls-trace·records·place-after (place-after-thm.met 𝓤 H 𝓜 𝓖 𝓡)))

@@ -1,18 +1,20 @@
 -- `trace::records::short_commit_of` meets its contract: the tests are those of shortCommitOf, in their order. Assumes nothing.
 use native.Mathlib.Omega.{arith}
-use Rattle.trace.specs.Format.{shortCommitOf}
 use Rattle.search.proofs.Steps.{need-met, need-unmet, tests}
-use Rattle.trace.proofs.Tests.{low-rises, low-stops}
+use Rattle.trace.specs.Format.{shortCommitOf}
 use Rattle.trace.specs.Meaning.{listingOf, entryOf, readingOf, ListingFits, PlacesFit}
+use Rattle.trace.specs.Sorted.{ListsBy, RecordSorted}
+use Rattle.trace.proofs.Sorting.{says-fit, says-touched, says-unfit}
+use borrow.Author.Needs.{needs}
 use borrow.Author.Needs.{needs}
 use Rattle.trace.proofs.records.short_commit_of.Statement.{statement}
 use Rattle.trace.proofs.records.short_commit_of.Tie as tie
 
-add-keys-fitting : tie.Need-add-keys-fitting
-add-keys-fitting c = search needs
+add-sort : tie.Need-add-sort
+add-sort c = search needs
 
-keys-fitting-requires : tie.Need-keys-fitting-requires
-keys-fitting-requires c κs = search needs
+sort-requires : tie.Need-sort-requires
+sort-requires c κs = search needs
 
 u16-at-requires : tie.Need-u16-at-requires
 u16-at-requires c κs = search needs
@@ -38,16 +40,28 @@ mul-if1-2 c = search needs
 add-if1-2 : tie.Need-add-if1-2
 add-if1-2 c = search needs
 
+unsorted-requires : tie.Need-unsorted-requires
+unsorted-requires c κs = search needs
+
+same-length : tie.Need-same-length
+same-length c = search needs
+
 returns : tie.Need-returns
-unfolding shortCommitOf listingOf entryOf readingOf ListingFits PlacesFit
-returns c = (λ n. need-unmet _ _ _ (omega tests), tt)
+unfolding shortCommitOf listingOf entryOf readingOf ListingFits PlacesFit RecordSorted ListsBy
+returns c = rw (c .unsorted .ensures) ((λ n. need-unmet _ _ _ (omega tests), tt), (tt, c .before .before .before .before .before .before .sort .ensures .1))
 
 add-if2 : tie.Need-add-if2
 add-if2 c = search needs
 
+unsorted-requires-2 : tie.Need-unsorted-requires-2
+unsorted-requires-2 c κs = search needs
+
+same-length-2 : tie.Need-same-length-2
+same-length-2 c = search needs
+
 returns-2 : tie.Need-returns-2
-unfolding shortCommitOf listingOf entryOf readingOf ListingFits PlacesFit
-returns-2 c = (λ n. need-met _ _ _ (omega tests) (need-unmet _ _ _ (omega tests)), tt)
+unfolding shortCommitOf listingOf entryOf readingOf ListingFits PlacesFit RecordSorted ListsBy
+returns-2 c = rw (c .unsorted2 .ensures) ((λ n. need-met _ _ _ (omega tests) (need-unmet _ _ _ (omega tests)), tt), (tt, c .before .before .before .before .before .before .before .sort .ensures .1))
 
 add-byte-at : tie.Need-add-byte-at
 add-byte-at c = search needs
@@ -55,27 +69,46 @@ add-byte-at c = search needs
 byte-at-requires : tie.Need-byte-at-requires
 byte-at-requires c κs = search needs
 
+unsorted-requires-3 : tie.Need-unsorted-requires-3
+unsorted-requires-3 c κs = search needs
+
+same-length-3 : tie.Need-same-length-3
+same-length-3 c = search needs
+
 returns-3 : tie.Need-returns-3
-unfolding shortCommitOf listingOf entryOf readingOf ListingFits PlacesFit
-returns-3 c = (λ n. need-met _ _ _ (omega tests) (need-met _ _ _ (omega tests) (need-unmet _ _ _ (omega tests))), tt)
+unfolding shortCommitOf listingOf entryOf readingOf ListingFits PlacesFit RecordSorted ListsBy
+returns-3 c = rw (c .unsorted3 .ensures) ((λ n. need-met _ _ _ (omega tests) (need-met _ _ _ (omega tests) (need-unmet _ _ _ (omega tests))), tt), (tt, c .before .before .before .before .before .before .before .before .before .sort .ensures .1))
+
+enum-known-sorted : tie.Need-enum-known-sorted
+enum-known-sorted c = search needs
+
+enum-told : tie.Need-enum-told
+enum-told c = search needs
+
+unsorted-requires-4 : tie.Need-unsorted-requires-4
+unsorted-requires-4 c κs = search needs
+
+same-length-4 : tie.Need-same-length-4
+same-length-4 c = search needs
 
 returns-4 : tie.Need-returns-4
-unfolding shortCommitOf listingOf entryOf readingOf ListingFits PlacesFit
+unfolding shortCommitOf listingOf entryOf readingOf ListingFits PlacesFit RecordSorted ListsBy
 returns-4 c =
-    let fails = low-stops _ _ (c .before .before .before .before .before .before .before .keys-fitting .ensures .0) (c .if4 .taken) in
-    (λ n. need-met _ _ _ (omega tests) (need-met _ _ _ (omega tests) (need-met _ _ _ (omega tests) (need-unmet _ _ _ fails))), tt)
+    let sort = c .before .before .before .before .before .before .before .before .before .before .before .sort .ensures in
+    let unfit = says-unfit _ _ _ _ _ (c .before .enum-told .given .1) (sort .0) in
+    rw (c .unsorted4 .ensures) ((λ n. need-met _ _ _ (omega tests) (need-met _ _ _ (omega tests) (need-met _ _ _ (omega tests) (need-unmet _ _ _ unfit))), tt), (tt, sort .1))
+
+add-t20 : tie.Need-add-t20
+add-t20 c = search needs
+
+mul-t21 : tie.Need-mul-t21
+mul-t21 c = search needs
+
+add-t22 : tie.Need-add-t22
+add-t22 c = search needs
 
 add-t14 : tie.Need-add-t14
 add-t14 c = search needs
-
-mul-t15 : tie.Need-mul-t15
-mul-t15 c = search needs
-
-add-t16 : tie.Need-add-t16
-add-t16 c = search needs
-
-add-t11 : tie.Need-add-t11
-add-t11 c = search needs
 
 add-u32-at : tie.Need-add-u32-at
 add-u32-at c = search needs
@@ -83,24 +116,28 @@ add-u32-at c = search needs
 u32-at-requires : tie.Need-u32-at-requires
 u32-at-requires c κs = search needs
 
-add-t11-2 : tie.Need-add-t11-2
-add-t11-2 c = search needs
+add-t14-2 : tie.Need-add-t14-2
+add-t14-2 c = search needs
 
-add-t16-2 : tie.Need-add-t16-2
-add-t16-2 c = search needs
+add-t22-2 : tie.Need-add-t22-2
+add-t22-2 c = search needs
+
+same-length-5 : tie.Need-same-length-5
+same-length-5 c = search needs
 
 returns-5 : tie.Need-returns-5
-unfolding shortCommitOf listingOf entryOf readingOf ListingFits PlacesFit
+unfolding shortCommitOf listingOf entryOf readingOf ListingFits PlacesFit RecordSorted ListsBy
 returns-5 c =
-    let (fits, count) = low-rises _ _ (c .before .before .before .before .before .before .before .before .keys-fitting .ensures .0) (λ e. c .before .if4 .left e) in
-    (λ n. need-met _ _ _ (omega tests) (need-met _ _ _ (omega tests) (need-met _ _ _ (omega tests) (need-met _ _ _ fits (cc)))), ((omega arith, (omega arith, fits)), omega arith, (omega arith, fits)))
+    let sort = c .before .before .before .before .before .before .before .before .before .before .before .before .sort .ensures in
+    let (fit, sorted) = says-fit _ _ _ _ _ (c .before .before .sorted .given .1) (sort .0) in
+    ((λ n. need-met _ _ _ (omega tests) (need-met _ _ _ (omega tests) (need-met _ _ _ (omega tests) (need-met _ _ _ fit (cc)))), ((omega arith, (omega arith, fit)), omega arith, (omega arith, fit))), ((sorted, says-touched _ _ _ _ _ (c .before .before .sorted .given .1) (sort .0)), sort .1))
 
 pub short-commit-of-spec : {M : Type 1} → statement M
 short-commit-of-spec =
     tie.close
     (tie.spec
-    add-keys-fitting
-    keys-fitting-requires
+    add-sort
+    sort-requires
     u16-at-requires
     cast-size
     mul-if1
@@ -109,19 +146,30 @@ short-commit-of-spec =
     keys-counted-requires
     mul-if1-2
     add-if1-2
+    unsorted-requires
+    same-length
     returns
     add-if2
+    unsorted-requires-2
+    same-length-2
     returns-2
     add-byte-at
     byte-at-requires
+    unsorted-requires-3
+    same-length-3
     returns-3
+    enum-known-sorted
+    enum-told
+    unsorted-requires-4
+    same-length-4
     returns-4
+    add-t20
+    mul-t21
+    add-t22
     add-t14
-    mul-t15
-    add-t16
-    add-t11
     add-u32-at
     u32-at-requires
-    add-t11-2
-    add-t16-2
+    add-t14-2
+    add-t22-2
+    same-length-5
     returns-5)

@@ -4,8 +4,8 @@ use mathlib.Core.Path.{_≡_}
 use native.Mathlib.Omega.{arith}
 use borrow.Author.Needs.{needs}
 use Rattle.state.specs.Keeps.{IsSet}
-use Rattle.views.specs.Gained.{WriterBelow}
-use Rattle.views.proofs.Gathered.{writers-none, writers-more}
+use Rattle.state.proofs.Below.{from-none, key-more}
+use Rattle.views.specs.Writing.{WriterAt, WriterBelow}
 use Rattle.views.proofs.held.all_writers.Statement.{statement}
 use Rattle.views.proofs.held.all_writers.Tie as tie
 
@@ -17,7 +17,7 @@ abbrev μ-loop : tie.MeasureT-loop
 μ-loop keys n all₀ k₀ all k = n - k
 
 loop-holds : tie.Need-loop-holds Inv-loop μ-loop
-loop-holds c = (omega arith, writers-none (c .before .args .keys .now))
+loop-holds c = (omega arith, from-none (WriterAt (c .before .args .keys .now)))
 
 add-union : tie.Need-add-union Inv-loop μ-loop
 add-union c = search needs
@@ -38,7 +38,7 @@ loop-less : tie.Need-loop-less Inv-loop μ-loop
 loop-less c = search needs
 
 loop-again : tie.Need-loop-again Inv-loop μ-loop
-loop-again c = (omega arith, writers-more (c .before .before .before .before .before .args .keys .now) _ _ (c .before .before .before .loop .inv .1) (c .union .ensures))
+loop-again c = (omega arith, key-more (WriterAt (c .before .before .before .before .before .args .keys .now)) _ (c .before .before .before .loop .inv .1) _ (λ t. (λ x. x, λ x. x)) (c .union .ensures))
 
 returns : tie.Need-returns Inv-loop μ-loop
 returns c = let e : c .before .loop .k ≡ c .before .before .before .args .n = omega arith in rw e at (c .before .loop .inv .1)

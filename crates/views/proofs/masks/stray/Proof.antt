@@ -1,6 +1,6 @@
 -- `views::masks::stray` meets its contract. The loop's invariant: no key passed strays. Assumes nothing.
 use Prim.Native.Nat.{ℕ, _-_, _≤_, _<_}
-use mathlib.Core.Path.{_≡_}
+use mathlib.Core.Path.{_≡_, refl}
 use mathlib.Core.List.{List}
 use native.Mathlib.Omega.{arith}
 use lib.Dec.{T}
@@ -20,6 +20,13 @@ Inv-loop fresh views base ranks n k₀ k =
 
 abbrev μ-loop : tie.MeasureT-loop
 μ-loop fresh views base ranks n k₀ k = n - k
+
+astray-requires : tie.Need-astray-requires Inv-loop μ-loop
+astray-requires c κs = search needs
+
+returns : tie.Need-returns Inv-loop μ-loop
+returns c = λ s old t values e ro km ko.
+    stray-nowhere s old t _ e (λ l h. stray-no t _ values ko l old (km .masks l h) (ro l h) refl (c .before .astray .ensures (c .if1 .taken) l h))
 
 loop-holds : tie.Need-loop-holds Inv-loop μ-loop
 loop-holds c = search needs
@@ -42,9 +49,9 @@ shared-slice-read-strays-2 c = search needs
 strays-requires : tie.Need-strays-requires Inv-loop μ-loop
 strays-requires c κs = search needs
 
-returns : tie.Need-returns Inv-loop μ-loop
-returns c = λ s old t values e ro km ko.
-    stray-at s old t _ e _ (omega arith) (stray-yes t _ values ko _ old (km .masks _ (omega arith)) (ro _ (omega arith)) (c .if1 .taken) (c .before .strays .ensures))
+returns-2 : tie.Need-returns-2 Inv-loop μ-loop
+returns-2 c = λ s old t values e ro km ko.
+    stray-at s old t _ e _ (omega arith) (stray-yes t _ values ko _ old (km .masks _ (omega arith)) (ro _ (omega arith)) (c .if2 .taken) (c .before .strays .ensures))
     (c .before .before .before .before .before .loop .inv .1 s old t values e ro km ko)
 
 add-k : tie.Need-add-k Inv-loop μ-loop
@@ -58,11 +65,11 @@ loop-again c = (
   omega arith,
   λ s old t values e ro km ko.
       below-more _ _ (c .before .before .before .before .before .loop .inv .1 s old t values e ro km ko)
-      (stray-no t _ values ko _ old (km .masks _ (omega arith)) (ro _ (omega arith)) (c .if1 .left) (c .before .strays .ensures)),
+      (stray-no t _ values ko _ old (km .masks _ (omega arith)) (ro _ (omega arith)) (c .if2 .left) (c .before .strays .ensures)),
 )
 
-returns-2 : tie.Need-returns-2 Inv-loop μ-loop
-returns-2 c = λ s old t values e ro km ko. stray-nowhere s old t _ e (λ l h. c .before .loop .inv .1 s old t values e ro km ko l (omega arith))
+returns-3 : tie.Need-returns-3 Inv-loop μ-loop
+returns-3 c = λ s old t values e ro km ko. stray-nowhere s old t _ e (λ l h. c .before .loop .inv .1 s old t values e ro km ko l (omega arith))
 
 pub stray-spec : {M : Type 1} → statement M
 stray-spec =
@@ -70,6 +77,8 @@ stray-spec =
     (tie.spec
     Inv-loop
     μ-loop
+    astray-requires
+    returns
     loop-holds
     mul-strays
     shared-slice-read-strays
@@ -77,8 +86,8 @@ stray-spec =
     mul-strays-2
     shared-slice-read-strays-2
     strays-requires
-    returns
+    returns-2
     add-k
     loop-less
     loop-again
-    returns-2)
+    returns-3)
