@@ -22,8 +22,9 @@ use consistency::{
 /// Words behind those of an answer, which must not be touched.
 const BEHIND: usize = 4;
 
-/// The plain engine judges a file of so many bytes in a few milliseconds.
-const SHORT: usize = 4_000;
+/// Files of up to so many bytes go through the plain engine once more, as a caller
+/// in Rust has it.
+const SHORT: usize = 1_000;
 
 /// A call with its answer as words: lent a file, a buffer and the words.
 pub type InWords = fn(&[u8], &mut [u8], &mut [u64]) -> u64;
