@@ -1,5 +1,7 @@
 // Little-endian numbers read from a slice of bytes and written into one: "Length first, little-endian" (01, The trace file).
 // A place is counted from the slice's start. Each width is two of the width before it.
+#![tactic(auto)]
+
 ghost use Rattle.std.specs.Prelude.{◌≡◌, ◌+◌, ◌≤◌, ◌<◌, length};
 ghost use Rattle.endian.specs.Endian.{le_at, le_bytes, put_at};
 

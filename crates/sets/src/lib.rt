@@ -1,4 +1,6 @@
 // Sets of numbers below 64, each in a u64: bit i stands for i. What each function answers is a definition of specs/Set.antt.
+#![tactic(auto)]
+
 ghost use Rattle.std.specs.Prelude.{◌≡◌, ◌+◌, ◌<◌, ◌≤◌};
 ghost use Rattle.sets.specs.Set.{has, single, insert, union, without, below, highest, lowest, size};
 

@@ -1,0 +1,6 @@
+-- `sets::insert` meets its contract. Assumes nothing.
+use borrow.Author.Rules.{rules}
+use Rattle.sets.proofs.insert.Goals as goal
+
+pub returns : goal.returns
+returns c = rw c.single.ensures
