@@ -1,4 +1,6 @@
 // Words and numbers put into a lent buffer of bytes, each behind what stands there: a function is told the place and answers the place behind what it put.
+#![tactic(auto)]
+
 ghost use Rattle.std.specs.Prelude.{◌+◌, ◌≤◌, ◌++◌, length};
 ghost use Rattle.text.specs.Decimal.{decimal};
 ghost use Rattle.text.specs.Put.{Put, most_digits};
