@@ -4,7 +4,7 @@ use Prim.Native.Nat.{ℕ, ◌<◌}
 use mathlib.Core.Logic.{inl, inr}
 use Rattle.relations.proofs.Closure.{Below, then_maybe-below}
 use Rattle.relations.specs.Relation.{ThenMaybe, alone, followed}
-use Rattle.dependencies.specs.History.{History, Stored, StoredBelow, as-writer, as-reader, SO, session-order, WR, write_read, WW, write-write, RW, read-write, PlainLink, by-SO, by-WR, by-WW, PrefixStep, SnapshotStep}
+use Rattle.dependencies.specs.History.{History, StoredBelow, as-writer, as-reader, SO, session-order, WR, write_read, WW, write-write, RW, read-write, PlainLink, by-SO, by-WR, by-WW, PrefixStep, SnapshotStep}
 
 module _ (n : ℕ) (H : History) (below : StoredBelow n H) where
   pub SO-below : Below n (SO H)

@@ -61,9 +61,9 @@ module _ {K : Type 0} (p : K → Bool) (L : K → ℕ → ℕ → Type 0) where
 
   -- A row of links with no two marked ones side by side is a walk of steps: each further link goes on with the step so far, or begins the next.
   steps : {k : K} {ks : List K} {a b c : ℕ} → Open k a b → Walk L ks b c → ¬ T (side_by_side p (k ∷ ks)) → Plus (MarkedStep p L) a c
-  steps {k} o end h = one (close k o)
-  steps {k} {a} {b} {c} o (link {k = k'} {ks = ks} {b = d} l w) h =
-      go o (p k') refl (λ x o'. steps o' w (λ t. h (side_by_side-cons p k k' ks t)))
+  steps {k = k} o end h = one (close k o)
+  steps {k = k} {a = a} {b = b} {c = c} o (link {k = k'} {ks = ks} {b = d} l w) h =
+      go o (p k') refl (λ x o'. steps {k = k'} o' w (λ t. h (side_by_side-cons p k k' ks t)))
     where
       go : Open k a b → (m : Bool) → p k' ≡ m → ((x : ℕ) → Open k' x d → Plus (MarkedStep p L) x c) → Plus (MarkedStep p L) a c
       go o false e rest = more (close k o) (rest b (unmarked e l))
