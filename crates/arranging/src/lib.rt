@@ -1,4 +1,6 @@
 // The call that judges a bare image (02, E9): it is lent the image in one slice and a buffer in another, and shows an order of the image's commits or a ring.
+#![tactic(auto)]
+
 ghost use Rattle.std.specs.Prelude.{◌≡◌, length};
 ghost use Rattle.arranging.specs.Answer.{shown_answer, shown_after};
 ghost use Rattle.arranging.specs.Answers.{arrangement_of};
@@ -9,7 +11,7 @@ use state::Refusal;
 use store::Store;
 
 // The answer for an image: a refusal with code 20 or 17, or what was shown, and how many commits it has.
-#[derive(Drop)]
+#[derive(Clone, Copy)]
 pub enum Arrangement {
     Refused(Refusal),
     Shown(Shown),

@@ -19,7 +19,7 @@ use state::{CommitNumber, FoundRead, Refusal};
 use trace::records::Listing;
 
 // Where the parts of a commit stand in the file, the ranks of its operations, and what it lists of its view after.
-#[derive(Drop)]
+#[derive(Clone, Copy)]
 pub struct CommitAt {
     pub client: usize,
     pub count: usize,

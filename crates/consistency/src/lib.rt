@@ -1,6 +1,8 @@
 // Every call for callers in Rust and C, each with all that is promised of it. A call is lent a trace file or an image, the places that it writes to, and words
 // for its answer; it answers a code, and nothing is asked of its caller. Which word is what stands in crates/words/specs/Layout.antt: a refusal has the same
 // words for all calls. What the answer is stands in the definitions that the contracts name.
+#![tactic(auto)]
+
 mod sessions; // sessions.rt: the close of a session, with the record by value
 
 ghost use Rattle.std.specs.Prelude.{◌≡◌, List, [], ◌++◌, ℕ, ◌≤◌, ◌<◌, length};

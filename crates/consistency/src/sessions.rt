@@ -35,7 +35,7 @@ pub fn in_words(was: Session, kept: &[u8], image: &mut [u8], out: &mut [u64]) ->
 }
 
 // A report, and the record after the close.
-#[derive(Drop)]
+#[derive(Clone, Copy)]
 pub struct Reported {
     pub session: Session,
     pub length: usize,

@@ -1,5 +1,7 @@
 // The calls that write a taken trace file in the short or in the long edition (02, E6): each is lent the trace file in one slice and a file buffer in
 // another, and gives one answer. A file is taken as `judge` takes it; what is written costs two more passes over its records.
+#![tactic(auto)]
+
 mod ending; // ending.rt: the answer for a trace that is taken
 mod kinds; // kinds.rt: a record written in either edition, and how long it is
 mod records; // records.rt: the records of the file, one after another
@@ -14,14 +16,14 @@ use state::Refusal;
 use taking::Taking;
 
 // "each 2 as a 6 and each 3 as a 5, or long the other way round"
-#[derive(Drop)]
+#[derive(Clone, Copy)]
 pub enum Edition {
     Long,
     Short,
 }
 
 // The answer for a file: a refusal with its code, or the length of the file that was written.
-#[derive(Drop)]
+#[derive(Clone, Copy)]
 pub enum Conversion {
     Refused(Refusal),
     Written(usize),

@@ -1,5 +1,7 @@
 // What the programs share that make a file of the trace file on standard input: a refusal is a line on standard error, and nothing is written to standard
 // output then, so that a pipe never carries half an answer. Input that cannot be read is no file: it gets a line on standard error.
+#![tactic(auto)]
+
 ghost use Rattle.std.specs.Prelude.{◌≤◌, length};
 ghost use Rattle.streams.specs.Input.{Within};
 

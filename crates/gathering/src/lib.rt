@@ -1,4 +1,6 @@
 // The rows of visibility (02, E14) from an image: each from the masks of its commit and the writers of all versions.
+#![tactic(auto)]
+
 ghost use Rattle.std.specs.Prelude.{◌≡◌, ℕ, ◌+◌, ◌*◌, ◌^◌, ◌≤◌, ◌<◌, T, length};
 ghost use Rattle.endian.specs.Endian.{put_at};
 ghost use Rattle.store.specs.Limits.{numbers};

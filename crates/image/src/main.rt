@@ -1,4 +1,6 @@
 // Writes the image of the store that the trace file on standard input ends in to standard output (02, E8); or its refusal, as crates/filters says.
+#![tactic(auto)]
+
 use judging::Answer;
 use store::Store;
 use streams::Input;

@@ -2,6 +2,8 @@
 // The words of the arrays are the rows of the image: a version is its head and its readers, a commit is one word and the masks of the view that it was
 // judged from.
 // What a function writes is said of every store that the arrays keep (state's specs/Keeps.antt).
+#![tactic(auto)]
+
 ghost use Rattle.std.specs.Prelude.{◌≡◌, ℕ, suc, ◌+◌, ◌*◌, ◌≤◌, ◌<◌, length};
 ghost use Rattle.endian.specs.Endian.{put_at, pieces};
 ghost use Rattle.store.specs.Limits.{max_keys, max_commits, numbers, per_key, max_image};

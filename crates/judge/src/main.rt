@@ -1,4 +1,6 @@
 // Judges the trace file on standard input and prints the report. Input that cannot be read is no file: it gets a line on standard error and no report.
+#![tactic(auto)]
+
 use libc::{STDIN_FILENO, STDOUT_FILENO};
 use store::Store;
 use streams::Input;

@@ -1,4 +1,6 @@
 // The call that judges a trace file: it is lent the file in one slice and an image buffer in another, and gives one answer.
+#![tactic(auto)]
+
 mod ending; // ending.rt: the answer for a trace that is taken
 
 ghost use Rattle.std.specs.Prelude.{◌≡◌, length};
@@ -14,7 +16,7 @@ use taking::Taking;
 use verdicts::told::Verdicts;
 
 // The answer for a file: a refusal with its code, or what was judged.
-#[derive(Drop)]
+#[derive(Clone, Copy)]
 pub enum Answer {
     Refused(Refusal),
     Judged {

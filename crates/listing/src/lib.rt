@@ -1,4 +1,6 @@
 // An order or a ring as a line of text: `order 1 2`, `ring 3 1`. The line stands in specs/Line.antt.
+#![tactic(auto)]
+
 ghost use Rattle.std.specs.Prelude.{◌+◌, ◌*◌, ◌≤◌, [], ◌∷◌, ◌++◌, length, take};
 ghost use Rattle.store.specs.Limits.{max_commits};
 ghost use Rattle.text.specs.Ascii.{line_feed};

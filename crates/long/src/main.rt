@@ -1,5 +1,7 @@
 // Writes the trace file on standard input to standard output in the long edition, each shift as a kind 2 and each commit as a kind 3 (02, E6); or its refusal,
 // as crates/filters says.
+#![tactic(auto)]
+
 use converting::Conversion;
 use store::Store;
 use streams::Input;

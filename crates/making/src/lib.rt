@@ -1,4 +1,6 @@
 // One commit made on the arrays: its operations, its links and its place in its session (01, Store and views, 3).
+#![tactic(auto)]
+
 ghost use Rattle.std.specs.Prelude.{◌≤◌, ◌<◌, ◌≡◌, eqb, get_or};
 ghost use Rattle.search.specs.Choose.{choose};
 ghost use Rattle.store.specs.Limits.{max_keys, max_clients, numbers};

@@ -1,6 +1,8 @@
 // What the operations of a commit say of the arrays, and do to them. A commit reads the newest version that its client's view holds of a key,
 // and appends the versions that it writes; both are from before the commit, so a read never sees a write of its own commit.
 // The arrays are described in crates/state/specs. `ranks` holds twice the key for each read, and one more for each write.
+#![tactic(auto)]
+
 ghost use Rattle.std.specs.Prelude.{◌≡◌, ◌+◌, ◌*◌, ◌^◌, ◌<◌, ◌≤◌, bit_or};
 ghost use Rattle.store.specs.Limits.{max_keys, numbers, per_key};
 ghost use Rattle.store.specs.Store.{View, Store, Commit};
@@ -30,7 +32,7 @@ fn note_read(versions: &mut [u64], k: Key, version: VersionNumber, me: CommitNum
 
 // What the reads of a commit come to: the writers of the versions that it reads, and those of later versions of the same keys; or the first read that is wrong,
 // and what it sees.
-#[derive(Drop)]
+#[derive(Clone, Copy)]
 pub enum Reads {
     Right { from: u64, over: u64 },
     Wrong(Key, Visible),
@@ -154,7 +156,7 @@ pub fn append(
 
 // The commits from which links lead to the commit that is made, by WR and WW, and those to which RW leads from it; or the first read that is wrong, and what
 // it sees.
-#[derive(Drop)]
+#[derive(Clone, Copy)]
 pub enum Linked {
     Made { from: u64, earlier: u64, over: u64 },
     Wrong(Key, Visible),

@@ -1,5 +1,7 @@
 // Judges the image on standard input (02, E9) and prints one line: `order` and the numbers of its commits, in an order that gives the image; or `ring` and those
 // of a ring of links; or a refusal. Input that cannot be read is no image: it gets a line on standard error, and nothing is printed.
+#![tactic(auto)]
+
 use arranging::Arrangement;
 use judging::Answer;
 use libc::{STDIN_FILENO, STDOUT_FILENO};

@@ -2,6 +2,8 @@
 // clause 6 and 1 for clause 7, a row for each commit with the commits that lead to it by one step; then for each kind and key the commits that
 // a link leads from to a reader of the key, which an RW link brings along to the next writer of the key. A commit's links are only noted when it is made: they
 // are entered once a clause asks for them.
+#![tactic(auto)]
+
 ghost use Rattle.std.specs.Prelude.{◌≡◌, List, ℕ, ◌*◌, ◌<◌, ◌≤◌, T, get_or};
 ghost use Rattle.sets.specs.Set.{has, below};
 ghost use Rattle.store.specs.Limits.{max_keys, numbers};
@@ -39,7 +41,7 @@ fn walk(links: &[u64], kind: usize, set: u64, first: u64) -> u64
 }
 
 // Commits for clause 6 and for clause 7.
-#[derive(Drop)]
+#[derive(Clone, Copy)]
 pub struct Leads {
     pub prefix: u64,
     pub snapshot: u64,

@@ -1,6 +1,8 @@
 // A trace file that comes in pieces (02, E5). The caller keeps a small record, the session, and lends a buffer beside it, in which the bytes are kept: a piece
 // costs what it is long. `push` and `close` change the record in place. Each is thin: it copies the record, and a function on values does the work. Nothing is asked of a record
 // or of a buffer: the contracts are equations for any of them, and specs/Has.antt says what holds of a record that was opened and changed by pieces alone.
+#![tactic(auto)]
+
 ghost use Rattle.std.specs.Prelude.{◌≡◌, List, [], ◌++◌, ℕ, ◌+◌, min, length};
 ghost use Rattle.judging.specs.Answers.{answer_of};
 ghost use Rattle.pieces.specs.Piece.{opened, too_many, piece_code, counted, placed, kept_after};
@@ -13,7 +15,7 @@ use store::Store;
 
 // Two words, of which any values are a record: how many bytes came, 65,537 for any number above 65,536; and 0, or another number where it is closed.
 #[repr(C)]
-#[derive(Drop)]
+#[derive(Clone, Copy)]
 pub struct Session {
     pub total: usize,
     pub closed: u64,
@@ -70,7 +72,7 @@ fn keep(kept: &mut [u8], at: usize, piece: &[u8])
 }
 
 // What a piece answers, and the record after it.
-#[derive(Drop)]
+#[derive(Clone, Copy)]
 pub struct Step {
     pub session: Session,
     pub code: u64,
@@ -112,7 +114,7 @@ pub fn push(session: &mut Session, kept: &mut [u8], piece: &[u8]) -> u64
 // ---- the close
 
 // What a close answers, and the record after it.
-#[derive(Drop)]
+#[derive(Clone, Copy)]
 pub struct Ending {
     pub session: Session,
     pub answer: Answer,

@@ -1,6 +1,8 @@
 // An order of commits, or a ring of their links, on words alone: row c of `rows` is the set of the commits with a link to c. "the lowest-numbered ready
 // commit first each time (ready: all commits with a link to it are placed)" (02, E9); and where none is ready back along the links, until a commit comes
 // again.
+#![tactic(auto)]
+
 ghost use Rattle.std.specs.Prelude.{◌≡◌, ℕ, ◌-◌, ◌≤◌, ◌<◌, length, get_or, take, drop};
 ghost use Rattle.endian.specs.Endian.{put_at};
 ghost use Rattle.sets.specs.Set.{without};
@@ -14,14 +16,14 @@ ghost use Rattle.ordering.specs.Rows.{links_in};
 ghost use Rattle.placing.specs.Answers.{shown_as};
 
 // What was shown, and how many commits it has.
-#[derive(Drop)]
+#[derive(Clone, Copy)]
 pub enum Shown {
     Order(usize),
     Ring(usize),
 }
 
 // A part of a slice: the places from one up to another.
-#[derive(Drop)]
+#[derive(Clone, Copy)]
 struct Part {
     from: usize,
     to: usize,

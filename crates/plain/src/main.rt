@@ -1,5 +1,7 @@
 // Judges the trace file on standard input by the plain second engine (02, E10) and prints the report, as `judge` does. Input that cannot be read is no file: it
 // gets a line on standard error and no report.
+#![tactic(auto)]
+
 use libc::{STDIN_FILENO, STDOUT_FILENO};
 use store::Store;
 use streams::Input;

@@ -1,5 +1,7 @@
 // Judges the trace file on standard input, piece by piece as it comes, and prints the report: that of `judge` for the same bytes, wherever they are cut. Input
 // that cannot be read is no file: it gets a line on standard error and no report.
+#![tactic(auto)]
+
 use libc::{STDIN_FILENO, STDOUT_FILENO};
 use store::Store;
 use streams::Input;

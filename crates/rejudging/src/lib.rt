@@ -1,5 +1,7 @@
 // The plain second engine (02, E10), for the acceptance trial: the answer of `judge` for a file, its verdicts found by trying every commit as the next link. It
 // writes no image. That both engines answer the same is proved of the two, and said of the two calls on one file.
+#![tactic(auto)]
+
 ghost use Rattle.std.specs.Prelude.{◌≡◌, ◌≤◌, length};
 ghost use Rattle.store.specs.Limits.{max_image};
 ghost use Rattle.answer.specs.Answer.{image_after};
@@ -47,7 +49,7 @@ pub fn plain(file: &[u8]) -> Answer
 }
 
 // The answers of both engines for one file.
-#[derive(Drop)]
+#[derive(Clone, Copy)]
 pub struct Both {
     pub fast: Answer,
     pub plain: Answer,

@@ -1,4 +1,6 @@
 // Writes the replay of the trace file on standard input to standard output, as a file (02, E1); or its refusal, as crates/filters says.
+#![tactic(auto)]
+
 use replaying::Replay;
 use store::Store;
 use streams::Input;

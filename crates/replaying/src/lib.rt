@@ -1,5 +1,7 @@
 // The call that writes the replay of a trace as a file (02, E1): it is lent the trace file in one slice and a file buffer in another, and gives one
 // answer. A file is taken as `judge` takes it; what is written costs two more passes over its records.
+#![tactic(auto)]
+
 mod ending; // ending.rt: the answer for a trace that is taken
 mod records; // records.rt: the records of the replay, and how long they are
 mod view; // view.rt: the masks of a full view, as commits go by
@@ -12,7 +14,7 @@ use state::Refusal;
 use taking::Taking;
 
 // The answer for a file: a refusal with its code, or the length of the file that was written.
-#[derive(Drop)]
+#[derive(Clone, Copy)]
 pub enum Replay {
     Refused(Refusal),
     Written(usize),

@@ -1,4 +1,6 @@
 // The report of an answer as text, written into a lent buffer. The lines stand in specs/Report.antt, and how long they can be in specs/Longest.antt.
+#![tactic(auto)]
+
 ghost use Rattle.std.specs.Prelude.{◌≡◌, [], ◌∷◌, ◌++◌, ◌+◌, ◌*◌, ◌≤◌, ◌<◌, length};
 ghost use Rattle.endian.specs.Endian.{put_at};
 ghost use Rattle.text.specs.Ascii.{space};

@@ -1,5 +1,7 @@
 // The run of a trace, record by record, on the arrays that keep the store: each is read (codes 3 to 8) and then done: what it is refused for (codes 9 to
 // 14), what it changes, and what the ten levels say of it.
+#![tactic(auto)]
+
 mod one; // one.rt: one record
 
 ghost use Rattle.std.specs.Prelude.{◌≡◌, ◌^◌, ◌≤◌, ◌<◌, List, length};
@@ -19,7 +21,7 @@ use trace::form::{Form, Header};
 use trace::records::Reading;
 
 // What the run of a trace comes to: all records are done, with so many commits; or one means what is refused, and all are in form; or one is not in form.
-#[derive(Drop)]
+#[derive(Clone, Copy)]
 pub enum Ran {
     Done { commits: usize },
     Refused(Refusal),

@@ -1,5 +1,7 @@
 // The call that reports visibility (02, E14), above the judge: it calls `judge`, and reads the image that then stands in the buffer. Nothing else of the
 // judge is opened.
+#![tactic(auto)]
+
 ghost use Rattle.std.specs.Prelude.{◌≡◌, length};
 ghost use Rattle.answer.specs.Answer.{image_after};
 ghost use Rattle.judging.specs.Answers.{answer_of};

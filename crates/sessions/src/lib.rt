@@ -1,5 +1,7 @@
 // The sessions of the clients and the log of the commits, kept along the trace: what SO leads from to a client's next commit, and
 // the least session number that is free (above "every earlier number of that client in the trace, operations or none", 02, E7).
+#![tactic(auto)]
+
 ghost use Rattle.std.specs.Prelude.{◌≡◌, true, ◌↔◌, ◌<◌};
 ghost use Rattle.store.specs.Limits.{max_clients, numbers};
 ghost use Rattle.store.specs.Store.{Store, View, Commit, next_number};

@@ -1,5 +1,7 @@
 // Writes the trace file on standard input to standard output in the short edition, each shift as a kind 6 and each commit as a kind 5 (02, E6); or its refusal,
 // as crates/filters says.
+#![tactic(auto)]
+
 use converting::Conversion;
 use store::Store;
 use streams::Input;

@@ -2,6 +2,8 @@
 // and what the loops of several crates share: the keys to go over, and sets gathered from rows. The arrays in which the judge keeps a
 // configuration are described in specs/Places.antt (where things stand), specs/Room.antt (how long they are) and specs/Keeps.antt (what they
 // say).
+#![tactic(auto)]
+
 ghost use Rattle.std.specs.Prelude.{◌≡◌, ◌+◌, ◌≤◌, ◌<◌, length};
 ghost use Rattle.sets.specs.Set.{highest};
 ghost use Rattle.store.specs.Limits.{max_keys};
@@ -17,15 +19,15 @@ ghost use Rattle.state.specs.Rows.{InRows};
 use store::Store;
 
 // The number of a key.
-#[derive(Drop)]
+#[derive(Clone, Copy)]
 pub struct Key(pub usize);
 
 // The number of a version of a key.
-#[derive(Drop)]
+#[derive(Clone, Copy)]
 pub struct VersionNumber(pub usize);
 
 // The number of a commit; the opening transaction is 0.
-#[derive(Drop)]
+#[derive(Clone, Copy)]
 pub struct CommitNumber(pub usize);
 
 // ---- where the tables start, in the order of specs/Places.antt; what is not named starts at 0
@@ -81,7 +83,7 @@ pub const VALUES: usize = 2 * Store::KEYS;
 // ---- answers
 
 // A refusal: its number, and the record, key, version and writer that it names (0 where not named).
-#[derive(Drop)]
+#[derive(Clone, Copy)]
 pub struct Refusal {
     pub code: usize,
     pub record: usize,
@@ -91,7 +93,7 @@ pub struct Refusal {
 }
 
 // The newest version that a view holds of a key: what a read of the key sees.
-#[derive(Drop)]
+#[derive(Clone, Copy)]
 pub struct Visible {
     pub value: u64,
     pub version: VersionNumber,
@@ -156,21 +158,21 @@ impl Refusal {
 }
 
 // The first version that a search came upon.
-#[derive(Drop)]
+#[derive(Clone, Copy)]
 pub enum Found {
     At(Key, VersionNumber),
     Nothing,
 }
 
 // The first key that a search came upon.
-#[derive(Drop)]
+#[derive(Clone, Copy)]
 pub enum FoundKey {
     AtKey(Key),
     NoKey,
 }
 
 // The first read that a search came upon, and what it sees.
-#[derive(Drop)]
+#[derive(Clone, Copy)]
 pub enum FoundRead {
     Sees(Key, Visible),
     NoRead,
@@ -236,7 +238,7 @@ pub fn gather(rows: &[u64], from: usize, set: u64) -> u64
 }
 
 // What is gathered from the rows of two parts of an array.
-#[derive(Drop)]
+#[derive(Clone, Copy)]
 pub struct Gathered {
     pub first: u64,
     pub second: u64,

@@ -1,5 +1,7 @@
 // The store as the code keeps it: its limits, named once ("Sizes of a rack", 01), and the opening one. What a store means is in specs/;
 // what each array says of a store is in crates/state (specs/Places.antt, specs/Keeps.antt).
+#![tactic(auto)]
+
 ghost use Rattle.std.specs.Prelude.{◌≡◌, [], ◌∷◌, ◌+◌, ◌*◌, replicate};
 ghost use Rattle.store.specs.Limits.{max_keys, max_clients, max_commits, numbers, per_key, min_bytes, max_bytes, max_image, max_replay};
 

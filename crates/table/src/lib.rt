@@ -1,4 +1,6 @@
 // Rows of visibility as text, each in decimal on its own line. The text stands in specs/Table.antt.
+#![tactic(auto)]
+
 ghost use Rattle.std.specs.Prelude.{◌*◌, ◌≤◌, length, take};
 ghost use Rattle.store.specs.Limits.{max_commits};
 ghost use Rattle.text.specs.Put.{Put};

@@ -1,6 +1,8 @@
 // A trace file is taken or refused, by codes 1 to 14: its header, and then its records, the form of all before the meaning of any. Where it is taken, the arrays that were lent
 // keep its last store, and the answer has its verdicts. Whatever a call makes of a taken trace comes after this and is its own: the call makes the
 // arrays of the opening store, lends them here, and ends with what it writes or answers.
+#![tactic(auto)]
+
 ghost use Rattle.std.specs.Prelude.{List, ℕ};
 ghost use Rattle.trace.specs.Meaning.{Headed};
 ghost use Rattle.taking.specs.Taking.{Opened, TakingSays};
@@ -13,7 +15,7 @@ use trace::form::{Form, Header};
 use verdicts::told::{Verdicts, verdicts_from};
 
 // What a file comes to: a refusal; or a trace with its header and so many commits, and the verdicts of the levels.
-#[derive(Drop)]
+#[derive(Clone, Copy)]
 pub enum Taking {
     Refused(Refusal),
     Taken {

@@ -9,7 +9,7 @@ use crate::records::{Reading, Why};
 use crate::{reader, records};
 
 // "keys u8, clients u8, count u16 of records that follow"
-#[derive(Drop)]
+#[derive(Clone, Copy)]
 pub struct Header {
     pub keys: usize,
     pub clients: usize,
@@ -17,7 +17,7 @@ pub struct Header {
 }
 
 // What was looked at is in form, of a file with this header; or the code of the first thing that is not and the number of the record where it is found.
-#[derive(Drop)]
+#[derive(Clone, Copy)]
 pub enum Form {
     Whole(Header),
     Misshapen { code: usize, record: usize },
@@ -25,7 +25,7 @@ pub enum Form {
 
 // A pass over the records: the number of the one that is next and how many commits there are before it, or where and with which code
 // the file is refused.
-#[derive(Drop)]
+#[derive(Clone, Copy)]
 pub enum Pass {
     Going { index: usize, commits: usize },
     Stopped { code: usize, record: usize },

@@ -10,7 +10,7 @@ ghost use Rattle.trace.specs.Meaning.{why_number, refusal_number, place_after, e
 ghost use Rattle.trace.specs.Sorted.{ValuesFit, SortSays, SortedInto};
 
 // Why a record is refused; whyNumber gives the code.
-#[derive(Drop)]
+#[derive(Clone, Copy)]
 pub enum Why {
     Length,
     Kind,
@@ -21,7 +21,7 @@ pub enum Why {
 
 // The masks that a record lists, by rising key from the place `masks` on: of every key (kinds 2 and 3), of the keys in a set (kind 6), or of
 // the keys with one of its operations, which are `count` and stand from a place on (kind 5). Places are counted from the file's start.
-#[derive(Drop)]
+#[derive(Clone, Copy)]
 pub enum Listing {
     Every {
         masks: usize,
@@ -38,7 +38,7 @@ pub enum Listing {
 }
 
 // What stands in a record; `operations` is a place.
-#[derive(Drop)]
+#[derive(Clone, Copy)]
 pub enum Record {
     Shift {
         client: usize,
@@ -54,28 +54,28 @@ pub enum Record {
 }
 
 // "A record is either read whole or the file is refused there": the record and the place where the next one starts, or why not.
-#[derive(Drop)]
+#[derive(Clone, Copy)]
 pub enum Reading {
     Whole { record: Record, next: usize },
     Refused(Why),
 }
 
 // What was read, and where it is a commit the ranks of its operations, as a set.
-#[derive(Drop)]
+#[derive(Clone, Copy)]
 pub struct Read {
     pub reading: Reading,
     pub ranks: u64,
 }
 
 // The operations of a commit fit, and these are their ranks, as a set; or they do not.
-#[derive(Drop)]
+#[derive(Clone, Copy)]
 pub enum Sorted {
     Fit(u64),
     Unfit,
 }
 
 // A record that is known to be in form, and the place where the next one starts.
-#[derive(Drop)]
+#[derive(Clone, Copy)]
 pub struct Known {
     pub record: Record,
     pub next: usize,

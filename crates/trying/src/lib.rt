@@ -1,6 +1,8 @@
 // The plain second engine (02, E10): what the clauses want of a view and what the levels say of a commit, by trying. Every set of commits is found anew from the
 // versions of the store, their readers and the log; of the rows in which the judge keeps such sets nothing is looked at. Where the first version that a
 // clause misses is searched for, the search is the judge's (crates/verdicts).
+#![tactic(auto)]
+
 mod gather; // gather.rt: sets of commits by their versions
 mod links; // links.rt: the commits that have a link to a member of a set
 mod path; // path.rt: the commits that lead to a member of a set within so many links
@@ -30,7 +32,7 @@ use verdicts::{Hand, Wanted};
 
 // For each kind of link, the commits in which it may end: SO, WR (a reader of what was written), WW (the writer of a later version) and RW (the overwriter of
 // what was read).
-#[derive(Drop)]
+#[derive(Clone, Copy)]
 pub struct Ends {
     pub session: u64,
     pub reader: u64,
@@ -39,14 +41,14 @@ pub struct Ends {
 }
 
 // The commits before some others in SO, and those from which these others, or a commit before them in SO, have read.
-#[derive(Drop)]
+#[derive(Clone, Copy)]
 pub struct Past {
     pub before: u64,
     pub read: u64,
 }
 
 // The commits of which the view before a commit holds a version, and those that clauses 3 to 8 want of it.
-#[derive(Drop)]
+#[derive(Clone, Copy)]
 pub struct Tried {
     pub seen: u64,
     pub wanted: Wanted,

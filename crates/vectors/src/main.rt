@@ -1,4 +1,6 @@
 // Judges each trace file that an argument names, and prints the file's name and its report. A file that cannot be read gets a line on standard error.
+#![tactic(auto)]
+
 ghost use Rattle.std.specs.Prelude.{◌+◌, ◌≤◌, length};
 ghost use Rattle.report.specs.Longest.{longest_report};
 

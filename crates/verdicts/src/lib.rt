@@ -1,6 +1,8 @@
 // The verdicts on a commit: which of the eight clauses fail it, and the first failure of each level. What clauses 3 to 8 want of the view before is gathered
 // before the commit is made (clauses); it is judged when it is made and its view after is known to be a view, on the arrays that keep the store after it
 // (report). The arrays are described in crates/state/specs.
+#![tactic(auto)]
+
 pub mod clauses;
 mod missing;
 pub mod report;
@@ -26,7 +28,7 @@ pub const EVERY_CLAUSE: u64 = 510;
 // The clauses that some level still asks for; the commits of which the view holds nothing, and where there are any the commits that those clauses want: those
 // before what the view holds in SO (clause 3), those from which it was read (4), the writers of the keys written (5), and those that lead to it (6 and 7).
 // What is wanted by a clause that no level asks for is not gathered.
-#[derive(Drop)]
+#[derive(Clone, Copy)]
 pub struct Wanted {
     pub live: u64,
     pub lacking: u64,
@@ -38,7 +40,7 @@ pub struct Wanted {
 }
 
 // The commits of which the view before a commit holds a version, those of which the view after does, and the commit's own number where it writes something.
-#[derive(Drop)]
+#[derive(Clone, Copy)]
 pub struct Held {
     pub before: u64,
     pub after: u64,
@@ -47,7 +49,7 @@ pub struct Held {
 
 // What is at hand where a commit is judged: the commits that the view before holds, the ranks of its operations, what clause 1 misses; for clause 2 the commit
 // and those before it in SO, and the commits of which the view after holds nothing; and the commits that the others want.
-#[derive(Drop)]
+#[derive(Clone, Copy)]
 pub struct Hand {
     pub seen: u64,
     pub ranks: u64,

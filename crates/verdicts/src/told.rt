@@ -10,7 +10,7 @@ use crate::{KEYS, RECORDS, VERSIONS};
 use state::{Key, VersionNumber};
 
 // What a level says of a trace: it accepts, or it is refused at the first commit that fails it.
-#[derive(Drop)]
+#[derive(Clone, Copy)]
 pub enum Verdict {
     Accepted,
     Refused {
@@ -22,7 +22,7 @@ pub enum Verdict {
 }
 
 // The verdicts of the ten levels, in report order.
-#[derive(Drop)]
+#[derive(Clone, Copy)]
 pub struct Verdicts {
     pub mr: Verdict,
     pub mw: Verdict,

@@ -13,7 +13,7 @@ ghost use Rattle.views.specs.Parted.{minus, Versions, Parted, Parting, PartedAt,
 use state::{CommitNumber, Key};
 
 // The commits with a version in a set of versions, and those of them with another version, which is not in it.
-#[derive(Drop)]
+#[derive(Clone, Copy)]
 pub struct Writers {
     pub all: u64,
     pub half: u64,

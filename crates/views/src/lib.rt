@@ -1,5 +1,7 @@
 // Views as masks: the masks of a record against the store and the client's present view (codes 10 to 12 and 14), the first version that a
 // clause misses, and the commits of which a view holds a version. The arrays are described in crates/state/specs.
+#![tactic(auto)]
+
 mod apart;
 pub mod held;
 pub mod masks;
@@ -7,7 +9,7 @@ pub mod missing;
 mod prefix;
 
 // The commits of which the masks hold a version; or the first version that they lack by a commit of which they hold another.
-#[derive(Drop)]
+#[derive(Clone, Copy)]
 pub enum Viewed {
     Holds(u64),
     Half(state::Key, state::VersionNumber),

@@ -37,7 +37,7 @@ pub fn prefixes(fresh: &[u64], n: usize) -> bool
 }
 
 // The commits of which masks hold a version, and those of which they lack one.
-#[derive(Drop)]
+#[derive(Clone, Copy)]
 pub struct Parts {
     pub held: u64,
     pub lacking: u64,

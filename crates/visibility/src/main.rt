@@ -1,6 +1,8 @@
 // Prints which commits of the trace file on standard input are visible to which (02, E14): for each commit in order a line with its row in decimal, in which bit
 // c is set exactly if commit c is visible to it; or the line of a refusal. A trace without commits prints nothing. Input that cannot be read is no
 // trace: it gets a line on standard error, and nothing is printed.
+#![tactic(auto)]
+
 use judging::Answer;
 use libc::{STDIN_FILENO, STDOUT_FILENO};
 use state::Refusal;

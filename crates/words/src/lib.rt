@@ -1,5 +1,7 @@
 // Answers as words, for callers in Rust and C: specs/Layout.antt says which word is what. Each function writes the words of one answer at the start of
 // a caller's words and answers its code.
+#![tactic(auto)]
+
 mod judged; // judged.rt: the words of the ten verdicts
 
 ghost use Rattle.std.specs.Prelude.{◌≡◌, [], ◌∷◌, ◌≤◌, length};

@@ -1,6 +1,8 @@
 // Records of a trace file, written into a lent buffer (01, The trace file; 02, E6): the bytes that trace's specs/Encode.antt and, for the
 // short edition, specs/Edition.antt say.
 // The masks of a view come from a row of an array of words, the operations of a commit from a file that has them already.
+#![tactic(auto)]
+
 ghost use Rattle.std.specs.Prelude.{◌≡◌, true, ℕ, ◌+◌, ◌*◌, ◌^◌, ◌≤◌, ◌<◌, T, length};
 ghost use Rattle.sets.specs.Set.{has, size};
 ghost use Rattle.endian.specs.Endian.{put_at};
