@@ -54,8 +54,8 @@ pub commit-kept : (s : Store) (commits : List ℕ) (t : CommitNumber) → KeepsC
 commit-kept s commits t kept fit p l = rw (kept.log t p l) (commit-word s t (fit t p l))
 
 -- the row of a commit, as the code adds up its place
-pub stored_row : (s : Store) (views : List ℕ) (t : CommitNumber) (base : ℕ) → KeepsStored s views → 0 < t → t ≤ s.commits → base ≡ view_place (stored_row t) 0
+pub stored_row-at : (s : Store) (views : List ℕ) (t : CommitNumber) (base : ℕ) → KeepsStored s views → 0 < t → t ≤ s.commits → base ≡ view_place (stored_row t) 0
     → RowAt s.keys views base (s.view_of t)
-stored_row s views t base kept p l e k b =
+stored_row-at s views t base kept p l e k b =
     let place : base + k ≡ view_place (stored_row t) k = omega arith in
     ap (λ (i : ℕ). get_or views i 0) place ∙ kept t p l k b

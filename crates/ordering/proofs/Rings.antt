@@ -87,6 +87,7 @@ module _ (r : Relation) where
       go : T (eqb c x) ⊎ ⊥ → T (chain r x (choose (eqb c x) [] []) z)
       go (inl e) =
           subst (λ (ys : List ℕ). T (chain r x ys z)) (sym (choose_yes (eqb c x) [] [] e)) (subst (λ (y : ℕ). T (r y z)) ((eq_is c x).0 e) t)
+      go (inr w) = elim w [ ]
   cut-chain c z x (y ∷ ys) l m t = go (T? (eqb c x)) (cut-chain c z y ys l.1)
     where
       rest : List ℕ

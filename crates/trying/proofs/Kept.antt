@@ -29,7 +29,7 @@ use Rattle.state.specs.Keeps.{IsSet, KeepsCommits, KeepsOperations, Step}
 use Rattle.state.proofs.Sets.{is_set-as}
 use Rattle.state.proofs.Ranks.{writes-rank}
 use Rattle.views.specs.Rules.{StoreAndView}
-use Rattle.views.proofs.Words.{writer_in}
+use Rattle.views.proofs.Words.{writer-in-array}
 use Rattle.trying.specs.Recorded.{versions_of, Exists, writer_at, readers_at, HeldIn, WroteOne, client_in, session_in, recorded}
 use Rattle.trying.specs.Tries.{StepOf}
 use Rattle.trying.proofs.Agreeing.{Agrees, SO-agrees, prefix-agrees, snapshot-agrees, up-to-agrees, read-up-to-agrees}
@@ -47,8 +47,8 @@ module _ (s : Store) (u : View) (n : ℕ) (versions keys masks : List ℕ) (base
 
   wrote-is : (t k i : ℕ) → (Exists keys n k i × (writer_at versions k i ≡ t)) ↔ Wrote s t k i
   wrote-is t k i = (
-    λ (x, e). let l = (exists-is k i).0 x in (l, sym (writer_in s u n versions keys masks base h k i l) ∙ e),
-    λ (l, e). ((exists-is k i).1 l, writer_in s u n versions keys masks base h k i l ∙ e),
+    λ (x, e). let l = (exists-is k i).0 x in (l, sym (writer-in-array s u n versions keys masks base h k i l) ∙ e),
+    λ (l, e). ((exists-is k i).1 l, writer-in-array s u n versions keys masks base h k i l ∙ e),
   )
 
   read_is : (t k i : ℕ) → (Exists keys n k i × T (has (readers_at versions k i) t)) ↔ Read s t k i

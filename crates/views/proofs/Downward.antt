@@ -24,7 +24,7 @@ use Rattle.views.specs.Viewed.{NewMasks}
 use Rattle.views.specs.Prefix.{Downward, Prefixes, Lacks}
 use Rattle.views.proofs.Tests.{has-as}
 use Rattle.views.proofs.Codes.{mask-holds}
-use Rattle.views.proofs.Words.{writer_in}
+use Rattle.views.proofs.Words.{writer-in-array}
 use Rattle.views.proofs.Differs.{exist, key_of}
 
 -- ---- a mask that has no digit in common with the next number
@@ -80,7 +80,7 @@ module _ (s : Store) (old u : View) (n : ℕ) (versions keys masks : List ℕ) (
     top-there = exist s old u n versions keys masks base seen fresh m good k (highest (u k)) top-held
 
     top-wrote : Wrote s w k (highest (u k))
-    top-wrote = (top-there, sym (ap (λ (x : Visible). x.writer) e ∙ ap (λ (x : Set). (visible_in versions x k).writer) mask ∙ writer_in s old n versions keys masks base m.arrays k (highest (u k)) top-there))
+    top-wrote = (top-there, sym (ap (λ (x : Visible). x.writer) e ∙ ap (λ (x : Set). (visible_in versions x k).writer) mask ∙ writer-in-array s old n versions keys masks base m.arrays k (highest (u k)) top-there))
 
     held_low : (t i : ℕ) → Wrote s t k i → T (has (u k) i) → t < w + 1
     held_low t i x h = go (dec_lt i (highest (u k)))

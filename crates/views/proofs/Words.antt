@@ -37,11 +37,11 @@ meets-is a b l = (λ t. let n = (not_is (eqb (bit_and a b) 0) (eq_is _ 0)).0 t i
 
 module _ (s : Store) (u : View) (n : ℕ) (versions keys masks : List ℕ) (base : ℕ) (h : StoreAndView s u n versions keys masks base)
     (k i : ℕ) (l : i < count s k) where
-  pub writer_in : writer_in (get_or versions (head_place k i) 0) ≡ (version s k i).writer
-  writer_in = writer-in-head s h.sound (omega (arith, h.few)) k i l (h.in-versions.heads k i l) (h.in-versions.value-fits k i l)
+  pub writer-in-array : writer_in (get_or versions (head_place k i) 0) ≡ (version s k i).writer
+  writer-in-array = writer-in-head s h.sound (omega (arith, h.few)) k i l (h.in-versions.heads k i l) (h.in-versions.value-fits k i l)
 
   pub written-by : (set : Set) {w : ℕ} → w ≡ writer_in (get_or versions (head_place k i) 0) → has set w ≡ by_writer s set k i
-  written-by set e = ap (has set) (e ∙ writer_in)
+  written-by set e = ap (has set) (e ∙ writer-in-array)
 
   pub read_by : (set : Set) → bit_and set (get_or versions (readers_place k i) 0) ≢ 0 → T (by_reader s set k i)
   read_by set n = rw (← h.in-versions.readers k i l) (meets-yes set _ n)
