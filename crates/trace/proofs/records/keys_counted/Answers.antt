@@ -1,0 +1,14 @@
+-- `trace::records::keys_counted` meets its contract. Assumes nothing.
+use mathlib.Core.Path.{◌∙◌}
+use native.Mathlib.Omega.{arith}
+use Rattle.trace.proofs.Sorting.{says-fit, firsts-many}
+use borrow.Author.Rules.{rules}
+use borrow.Author.Rules.{rules}
+use Rattle.trace.proofs.records.keys_counted.Goals as goal
+
+pub returns-in-Fit : goal.returns-in-Fit
+returns-in-Fit c =
+    let (values, says) = c.requires.3 in
+    let sorted = says-fit _ _ _ _ _ c.in-Fit.is says in
+    let many = firsts-many _ _ _ _ values _ _ (λ i. (c.type_inv.s i).fits) c.requires.2 (omega (arith, c.first_ranks.type_inv)) sorted c.first_ranks.ensures in
+    (c.size.ensures.0 ∙ many, omega (arith, c.size.ensures.1))
