@@ -1,0 +1,24 @@
+-- `paths::add` meets its contract. Assumes nothing.
+use mathlib.Core.Path.{◌∙◌}
+use native.Mathlib.Omega.{arith}
+use lib.ListN.{length-set}
+use Rattle.state.specs.Places.{note_place}
+use borrow.Author.Rules.{rules}
+use Rattle.paths.proofs.Added.{added, notes-stay}
+use Rattle.paths.proofs.Kept.{links-added}
+use Rattle.paths.proofs.add.Goals as goal
+
+pub bounds-links-t-2 : goal.bounds-links-t-2
+bounds-links-t-2 c = simp length-set (omega (arith, c.point.ensures.long))
+
+pub bring-requires : goal.bring-requires
+bring-requires c = simp length-set (omega (arith, c.point.ensures.long))
+
+pub shape_of-links : goal.shape_of-links
+shape_of-links c =
+    c.bring.ensures.long ∙ simp length-set c.point.ensures.long
+
+pub returns : goal.returns
+returns c =
+    let b = c.brought-more.ensures in
+    let g = added _ _ _ _ _ _ c.requires.1 c.requires.2 c.ranges.over.fits _ _ _ c.requires.0 _ _ c.point.ensures c.bring.ensures _ _ b.0 b.1 c.union.ensures c.union-2.ensures in record { kept = links-added _ _ _ _ _ _ _ _ _ g.0 c.union-first.ensures c.union-into.ensures g.1 g.2; notes = λ part t. notes-stay _ _ _ _ _ _ c.requires.1 c.requires.2 c.ranges.over.fits _ _ _ c.requires.0 _ _ c.point.ensures c.bring.ensures (note_place part t) (omega arith) }
