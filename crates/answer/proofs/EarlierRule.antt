@@ -26,7 +26,7 @@ use Rattle.store.proofs.Run.{LegalRun, done, shifts, commits, sound-shifts, soun
 use Rattle.trace.specs.Format.{Trace}
 use Rattle.trace.proofs.Decoded.{decoded-well-formed}
 use Rattle.levels.specs.Clause.{Clause, monotonic_reads, read_your_writes, session_writes, wants, missing_by}
-use Rattle.levels.specs.Level.{Level, MR, MW, RYW, WFR, CC, UA, PSI, CP, Si, SER, clauses_of, Failure, failure, fails_clauses, fails_event, first_failure}
+use Rattle.levels.specs.Level.{Level, MR, MW, RYW, WFR, CC, UA, PSI, CP, SI, SER, clauses_of, Failure, failure, fails_clauses, fails_event, first_failure}
 use Rattle.levels.proofs.Clauses.{clause-is}
 use Rattle.levels.proofs.Levels.{AllSay, Passes}
 use Rattle.growth.proofs.Made.{sound-after}
@@ -134,7 +134,7 @@ module _ (t : Trace) (h : Taken t) where
   each_level UA n = without UA (λ g c n. refl)
   each_level PSI n = with-both PSI _ refl (λ g c n. refl)
   each_level CP n = with-both CP _ refl (λ g c n. refl)
-  each_level Si n = with-both Si _ refl (λ g c n. refl)
+  each_level SI n = with-both SI _ refl (λ g c n. refl)
   each_level SER n = without SER (λ g c n. refl)
 
 pub only-ryw-changes : (bytes : List ℕ) → Bytes bytes → OnlyRYWChanges bytes

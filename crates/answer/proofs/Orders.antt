@@ -16,7 +16,7 @@ use Rattle.store.specs.Sound.{Sound, WithinKeys}
 use Rattle.store.proofs.Sound.{sound-opening, sound-update}
 use Rattle.store.proofs.Run.{LegalRun, done, shifts, commits, sound-shifts, sound-commits, Each, each_both, each_map, final-commits}
 use Rattle.trace.specs.Format.{Trace}
-use Rattle.levels.specs.Level.{Level, MR, MW, RYW, WFR, CC, PSI, CP, Si, SER, clauses_of, Failure, fails_clauses, fails_event, first_failure}
+use Rattle.levels.specs.Level.{Level, MR, MW, RYW, WFR, CC, PSI, CP, SI, SER, clauses_of, Failure, fails_clauses, fails_event, first_failure}
 use Rattle.levels.proofs.Levels.{Passes, fails-none, fails-number, si→psi, si→cp, psi→cc, cp→cc, cc→mr, cc→mw, cc→ryw, cc→wfr, every-clause, all_say}
 use Rattle.answer.specs.Demand3.{failing_commit, fails_at, Accepts}
 use Rattle.answer.proofs.Taken.{Taken}
@@ -149,11 +149,11 @@ module _ (t : Trace) (h : Taken t) where
 
   -- ---- the orders of demand 3
 
-  pub si-psi : fails_at Si t ≤ fails_at PSI t
-  si-psi = fails-no-later Si PSI si→psi
+  pub si-psi : fails_at SI t ≤ fails_at PSI t
+  si-psi = fails-no-later SI PSI si→psi
 
-  pub si-cp : fails_at Si t ≤ fails_at CP t
-  si-cp = fails-no-later Si CP si→cp
+  pub si-cp : fails_at SI t ≤ fails_at CP t
+  si-cp = fails-no-later SI CP si→cp
 
   pub psi-cc : fails_at PSI t ≤ fails_at CC t
   psi-cc = fails-no-later PSI CC psi→cc
@@ -180,10 +180,10 @@ module _ (t : Trace) (h : Taken t) where
   abbrev earliest : CommitNumber
   earliest = min (fails_at SER t) (min (fails_at MR t) (fails_at RYW t))
 
-  pub earliest-si : min (fails_at SER t) (min (fails_at MR t) (fails_at RYW t)) ≤ fails_at Si t
+  pub earliest-si : min (fails_at SER t) (min (fails_at MR t) (fails_at RYW t)) ≤ fails_at SI t
   earliest-si =
       let ser : Below earliest (Passes SER) = (fails-no-earlier SER earliest).0 (omega arith) in
       let mr : Below earliest (Passes MR) = (fails-no-earlier MR earliest).0 (omega arith) in
       let ryw : Below earliest (Passes RYW) = (fails-no-earlier RYW earliest).0 (omega arith) in
-      implied-no-earlier earliest Strongest Si (λ g c (s, (m, r)). all_say g c (every-clause g c s m r) (clauses_of Si))
+      implied-no-earlier earliest Strongest SI (λ g c (s, (m, r)). all_say g c (every-clause g c s m r) (clauses_of SI))
       (below_both earliest (Passes SER) (λ g c. Passes MR g c × Passes RYW g c) ser (below_both earliest (Passes MR) (Passes RYW) mr ryw))

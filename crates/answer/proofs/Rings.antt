@@ -28,7 +28,7 @@ use Rattle.store.proofs.Links.{link-means}
 use Rattle.store.proofs.Opening.{opening-history}
 use Rattle.store.proofs.Run.{run-keeps}
 use Rattle.trace.specs.Format.{Trace}
-use Rattle.levels.specs.Level.{Si, SER}
+use Rattle.levels.specs.Level.{SI, SER}
 use Rattle.levels.proofs.Levels.{Passes}
 use Rattle.answer.specs.Answer.{final_store}
 use Rattle.answer.specs.Demand3.{Accepts, LinkOf}
@@ -91,7 +91,7 @@ module _ (g : Configuration) (c : Commit) (h : Sound g) (f : WithinKeys g.store.
   is-client = client-new g.store (view_before g c) c (made g c h f l)
 
   -- snapshot isolation: clause 1 makes the views grow, by clause 2 the client's view holds what the commit wrote, and 5 and 7 close no walk
-  snapshot-commit : Passes Si g c → SnapshotGraph g → SnapshotGraph (step g (commit c))
+  snapshot-commit : Passes SI g c → SnapshotGraph g → SnapshotGraph (step g (commit c))
   unfolding step
   snapshot-commit (mr, (ryw, (ua, (si, _)))) i = record {
     owned = owned-commit H H' (views-of g) t c.client is-client i.owned Writes grown
@@ -112,10 +112,10 @@ module _ (t : Trace) (h : Taken t) where
   final-link-means : (kind : LinkKind) (a b : CommitNumber) → LinkOf (final_store t) kind a b → LinkThat (history (final_store t)) (is_rw kind) a b
   final-link-means = link-means (final_store t) (sound-final t h).store
 
-  snapshot-graph : Accepts Si t → SnapshotGraph (final (opening t.keys) t.events)
+  snapshot-graph : Accepts SI t → SnapshotGraph (final (opening t.keys) t.events)
   snapshot-graph accepts =
-      run-keeps (Passes Si) SnapshotGraph (λ g d u _. snapshot-shift g d u) snapshot-commit
-      (sound-opening t.keys) h.legal ((accepts-each t h Si).0 accepts) (snapshot-opening t.keys)
+      run-keeps (Passes SI) SnapshotGraph (λ g d u _. snapshot-shift g d u) snapshot-commit
+      (sound-opening t.keys) h.legal ((accepts-each t h SI).0 accepts) (snapshot-opening t.keys)
 
   dependencies-acyclic : Accepts SER t → Acyclic (D.Dependency (history (final_store t)))
   dependencies-acyclic accepts =
@@ -123,7 +123,7 @@ module _ (t : Trace) (h : Taken t) where
       (sound-opening t.keys) h.legal ((accepts-each t h SER).0 accepts) (opening-acyclic _ (opening-history t.keys))
 
   -- "If snapshot isolation passes, every ring of dependencies in the store has two read-to-overwrite links side by side."
-  pub si-rings : Accepts Si t → (kind : LinkKind) (kinds : List LinkKind) (a : CommitNumber)
+  pub si-rings : Accepts SI t → (kind : LinkKind) (kinds : List LinkKind) (a : CommitNumber)
       → Ring (LinkOf (final_store t)) kind kinds a → T (side_by_side_in_ring is_rw kind kinds)
   si-rings accepts kind kinds a =
       rings-have-RW-side-by-side (history (final_store t)) is_rw (LinkOf (final_store t)) final-link-means (snapshot-graph accepts).acyclic

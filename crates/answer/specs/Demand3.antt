@@ -7,7 +7,7 @@ use Rattle.store.specs.Links.{LinkKind, linked, is_rw}
 use Rattle.store.specs.Image.{image}
 use Rattle.trace.specs.Result.{Result, taken}
 use Rattle.trace.specs.Format.{Trace}
-use Rattle.levels.specs.Level.{Level, MR, MW, RYW, WFR, CC, UA, PSI, CP, Si, SER, Failure}
+use Rattle.levels.specs.Level.{Level, MR, MW, RYW, WFR, CC, UA, PSI, CP, SI, SER, Failure}
 use Rattle.answer.specs.Answer.{final_store, accept, verdict}
 use Rattle.answer.specs.Replay.{replay_trace, replay}
 use Rattle.answer.specs.SerialRun.{all_zero, serial_run, newest_values}
@@ -40,8 +40,8 @@ pub record SameOutcome (t : Trace) (file : List ℕ) : Type 0 where
 -- what demand 3 says of a taken trace
 pub record Claim (t : Trace) : Type 0 where
   -- "Snapshot isolation fails no later than parallel snapshot isolation and no later than consistent prefix."
-  pub si-psi : fails_at Si t ≤ fails_at PSI t
-  pub si-cp : fails_at Si t ≤ fails_at CP t
+  pub si-psi : fails_at SI t ≤ fails_at PSI t
+  pub si-cp : fails_at SI t ≤ fails_at CP t
   -- "Each of the latter two fails no later than causal consistency,"
   pub psi-cc : fails_at PSI t ≤ fails_at CC t
   pub cp-cc : fails_at CP t ≤ fails_at CC t
@@ -51,9 +51,9 @@ pub record Claim (t : Trace) : Type 0 where
   pub cc-ryw : fails_at CC t ≤ fails_at RYW t
   pub cc-wfr : fails_at CC t ≤ fails_at WFR t
   -- "Snapshot isolation fails no earlier than the earliest of serialisability, monotonic reads and read-your-writes."
-  pub earliest-si : min (fails_at SER t) (min (fails_at MR t) (fails_at RYW t)) ≤ fails_at Si t
+  pub earliest-si : min (fails_at SER t) (min (fails_at MR t) (fails_at RYW t)) ≤ fails_at SI t
   -- "If snapshot isolation passes, every ring of dependencies in the store has two read-to-overwrite links side by side."
-  pub si-rings : Accepts Si t → (kind : LinkKind) (kinds : List LinkKind) (a : CommitNumber)
+  pub si-rings : Accepts SI t → (kind : LinkKind) (kinds : List LinkKind) (a : CommitNumber)
       → Ring (LinkOf (final_store t)) kind kinds a → T (side_by_side_in_ring is_rw kind kinds)
   -- "If serialisability passes, there is no ring;"
   pub ser-rings : Accepts SER t → (kind : LinkKind) (kinds : List LinkKind) (a : CommitNumber) → ¬ Ring (LinkOf (final_store t)) kind kinds a

@@ -31,7 +31,7 @@ use converting::Edition;
 use pieces::Session;
 
 // Judges a trace file: ten verdicts, and the image of its store at the start of `image`; or a refusal with codes 1 to 15, and `image` as it came.
-// Where there is no room for the words nothing is judged. No file has an image longer than `maxImage` bytes: with such a buffer there is no code 15. Read back, the
+// Where there is no room for the words nothing is judged. No file has an image longer than `max_image` bytes: with such a buffer there is no code 15. Read back, the
 // image says the whole store, and each view in it is one of the store as it was before its commit.
 #[unsafe(no_mangle)]
 pub extern "C" fn judge_file(file: &[u8], image: &mut [u8], out: &mut [u64]) -> u64
@@ -69,7 +69,7 @@ pub extern "C" fn plain_file(file: &[u8], out: &mut [u64]) -> u64
 
 // Writes the replay of a trace file (02, E1) as a file at the start of `buffer`: its commits in their order, each made from a full view and left with one. Or
 // a refusal with codes 1 to 14; 16, where serialisability does not accept the trace; 17, where `buffer` is shorter than the file; and `buffer` as it
-// came. What was written reads back with the same store and image, and all levels accept it. No replay is longer than `maxReplay` bytes. Where there is no
+// came. What was written reads back with the same store and image, and all levels accept it. No replay is longer than `max_replay` bytes. Where there is no
 // room for the words of a refusal nothing is done.
 #[unsafe(no_mangle)]
 pub extern "C" fn replay_file(file: &[u8], buffer: &mut [u8], out: &mut [u64]) -> u64

@@ -16,7 +16,7 @@ use Rattle.store.specs.Sound.{SoundStore}
 use Rattle.store.specs.History.{history, held}
 use Rattle.store.proofs.Links.{reads-written}
 use Rattle.levels.specs.Clause.{Clause, monotonic_reads, read_your_writes, monotonic_writes, writes_follow_reads, update_atomic, consistent_prefix, snapshot_isolation, serialisability, missing_by}
-use Rattle.levels.specs.Level.{Level, MR, MW, RYW, WFR, CC, UA, PSI, CP, Si, SER, clauses_of, Failure, failure, fails_clauses}
+use Rattle.levels.specs.Level.{Level, MR, MW, RYW, WFR, CC, UA, PSI, CP, SI, SER, clauses_of, Failure, failure, fails_clauses}
 use Rattle.levels.proofs.Clauses.{Says, clause-is}
 
 -- every clause of a list holds
@@ -55,10 +55,10 @@ fails-number n s u c (x ∷ xs) f e = go (missing_by s u c x) (fails-number n s 
 -- ---- the orderings of demand 3, at one commit
 
 module _ (g : Configuration) (c : Commit) where
-  pub si→psi : Passes Si g c → Passes PSI g c
+  pub si→psi : Passes SI g c → Passes PSI g c
   si→psi (mr, (ryw, (ua, (si, _)))) = (mr, (ryw, (7→3 _ _ si, (7→4 _ _ (reads-written g.store) si, (ua, tt)))))
 
-  pub si→cp : Passes Si g c → Passes CP g c
+  pub si→cp : Passes SI g c → Passes CP g c
   si→cp (mr, (ryw, (ua, (si, _)))) = (mr, (ryw, (7→6 _ _ si, tt)))
 
   pub psi→cc : Passes PSI g c → Passes CC g c

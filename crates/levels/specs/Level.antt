@@ -8,13 +8,13 @@ use Rattle.store.specs.Missing.{Place}
 use Rattle.levels.specs.Clause.{Clause, monotonic_reads, read_your_writes, monotonic_writes, writes_follow_reads, update_atomic, consistent_prefix, snapshot_isolation, serialisability, missing_by}
 
 pub data Level : Type 0 where
-  MR MW RYW WFR CC UA PSI CP Si SER : Level
+  MR MW RYW WFR CC UA PSI CP SI SER : Level
 
 -- "Levels in report order"
 abbrev pub levels : List Level
-levels = MR ∷ MW ∷ RYW ∷ WFR ∷ CC ∷ UA ∷ PSI ∷ CP ∷ Si ∷ SER ∷ []
+levels = MR ∷ MW ∷ RYW ∷ WFR ∷ CC ∷ UA ∷ PSI ∷ CP ∷ SI ∷ SER ∷ []
 
--- "with their clauses: MR 1; MW 3; RYW 2; WFR 4; CC 1 2 3 4; UA 5; PSI 1 2 3 4 5; CP 1 2 6; Si 1 2 5 7; SER 8", lowest first
+-- "with their clauses: MR 1; MW 3; RYW 2; WFR 4; CC 1 2 3 4; UA 5; PSI 1 2 3 4 5; CP 1 2 6; SI 1 2 5 7; SER 8", lowest first
 abbrev pub clauses_of : Level → List Clause
 clauses_of MR = monotonic_reads ∷ []
 clauses_of MW = monotonic_writes ∷ []
@@ -24,7 +24,7 @@ clauses_of CC = monotonic_reads ∷ read_your_writes ∷ monotonic_writes ∷ wr
 clauses_of UA = update_atomic ∷ []
 clauses_of PSI = monotonic_reads ∷ read_your_writes ∷ monotonic_writes ∷ writes_follow_reads ∷ update_atomic ∷ []
 clauses_of CP = monotonic_reads ∷ read_your_writes ∷ consistent_prefix ∷ []
-clauses_of Si = monotonic_reads ∷ read_your_writes ∷ update_atomic ∷ snapshot_isolation ∷ []
+clauses_of SI = monotonic_reads ∷ read_your_writes ∷ update_atomic ∷ snapshot_isolation ∷ []
 clauses_of SER = serialisability ∷ []
 
 -- a failure: the commit's number and record, the clause, and the version that is missing

@@ -7,7 +7,7 @@ use Rattle.text.specs.Ascii.{ascii, space}
 use Rattle.text.specs.Lines.{line}
 use Rattle.text.specs.Put.{Put}
 use Rattle.text.proofs.Put.{put_both}
-use Rattle.levels.specs.Level.{Level, levels, MR, MW, RYW, WFR, CC, UA, PSI, CP, Si, SER}
+use Rattle.levels.specs.Level.{Level, levels, MR, MW, RYW, WFR, CC, UA, PSI, CP, SI, SER}
 use Rattle.verdicts.specs.Told.{Told}
 use Rattle.report.specs.Report.{level_name, verdict_pieces, verdict_line, verdict_lines}
 
@@ -30,13 +30,13 @@ put-last-line {before} {after} {at} {end} l v p = subst (λ t. Put before at t a
 
 -- the lines of all levels, in two halves
 halves : (a b c d e f g h i j : Option Told)
-    → verdict_lines (MR ∷ MW ∷ RYW ∷ WFR ∷ CC ∷ []) (a ∷ b ∷ c ∷ d ∷ e ∷ []) ++ verdict_lines (UA ∷ PSI ∷ CP ∷ Si ∷ SER ∷ []) (f ∷ g ∷ h ∷ i ∷ j ∷ [])
+    → verdict_lines (MR ∷ MW ∷ RYW ∷ WFR ∷ CC ∷ []) (a ∷ b ∷ c ∷ d ∷ e ∷ []) ++ verdict_lines (UA ∷ PSI ∷ CP ∷ SI ∷ SER ∷ []) (f ∷ g ∷ h ∷ i ∷ j ∷ [])
     ≡ verdict_lines levels (a ∷ b ∷ c ∷ d ∷ e ∷ f ∷ g ∷ h ∷ i ∷ j ∷ [])
 halves a b c d e f g h i j = simp (append_assoc, append-nil)
 
 pub put-halves : {before middle after : List ℕ} {at mid end : ℕ} (a b c d e f g h i j : Option Told)
     → Put before at (verdict_lines (MR ∷ MW ∷ RYW ∷ WFR ∷ CC ∷ []) (a ∷ b ∷ c ∷ d ∷ e ∷ [])) middle mid
-    → Put middle mid (verdict_lines (UA ∷ PSI ∷ CP ∷ Si ∷ SER ∷ []) (f ∷ g ∷ h ∷ i ∷ j ∷ [])) after end
+    → Put middle mid (verdict_lines (UA ∷ PSI ∷ CP ∷ SI ∷ SER ∷ []) (f ∷ g ∷ h ∷ i ∷ j ∷ [])) after end
     → Put before at (verdict_lines levels (a ∷ b ∷ c ∷ d ∷ e ∷ f ∷ g ∷ h ∷ i ∷ j ∷ [])) after end
 put-halves {before} {middle} {after} {at} {mid} {end} a b c d e f g h i j p q =
     subst (λ t. Put before at t after end) (halves a b c d e f g h i j) (put_both p q)

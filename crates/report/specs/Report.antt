@@ -8,7 +8,7 @@ use Rattle.text.specs.Ascii.{space, line_feed}
 use Rattle.text.specs.Lines.{Piece, word, number, line}
 use Rattle.store.specs.Refusal.{Refusal}
 use Rattle.trace.specs.Result.{Result, refused, taken}
-use Rattle.levels.specs.Level.{Level, levels, MR, MW, RYW, WFR, CC, UA, PSI, CP, Si, SER}
+use Rattle.levels.specs.Level.{Level, levels, MR, MW, RYW, WFR, CC, UA, PSI, CP, SI, SER}
 use Rattle.verdicts.specs.Told.{Told}
 use Rattle.judging.specs.Answers.{Judged}
 
@@ -40,7 +40,7 @@ level_name CC = "CC"
 level_name UA = "UA"
 level_name PSI = "PSI"
 level_name CP = "CP"
-level_name Si = "SI"
+level_name SI = "SI"
 level_name SER = "SER"
 
 -- refused record 2 clause 5 key 0 version 1

@@ -7,7 +7,7 @@ ghost use Rattle.text.specs.Ascii.{space};
 ghost use Rattle.text.specs.Lines.{line};
 ghost use Rattle.text.specs.Put.{Put};
 ghost use Rattle.state.specs.Answers.{refusal_of};
-ghost use Rattle.levels.specs.Level.{levels, MR, MW, RYW, WFR, CC, UA, PSI, CP, Si, SER};
+ghost use Rattle.levels.specs.Level.{levels, MR, MW, RYW, WFR, CC, UA, PSI, CP, SI, SER};
 ghost use Rattle.verdicts.specs.Told.{Told, verdict_of, verdicts_of};
 ghost use Rattle.judging.specs.Answers.{answer_of};
 ghost use Rattle.report.specs.Report.{writer_pieces, behind, refusal_line, counts_line, failure_pieces, verdict_pieces, verdict_line, verdict_lines, report_text};
@@ -133,7 +133,7 @@ fn put_last(
 ) -> usize
     requires { at + (12 + 5 * longest_verdict) ≤ length out.old }
     ensures put { Put out.old at
-        (verdict_lines (UA ∷ PSI ∷ CP ∷ Si ∷ SER ∷ []) (verdict_of ua ∷ verdict_of psi ∷ verdict_of cp ∷ verdict_of si ∷ verdict_of ser ∷ []))
+        (verdict_lines (UA ∷ PSI ∷ CP ∷ SI ∷ SER ∷ []) (verdict_of ua ∷ verdict_of psi ∷ verdict_of cp ∷ verdict_of si ∷ verdict_of ser ∷ []))
         out.new result }
     ensures upper_bound { result ≤ at + (12 + 5 * longest_verdict) }
 {

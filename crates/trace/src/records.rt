@@ -9,7 +9,7 @@ ghost use Rattle.trace.specs.Format.{operations_at, rank_at, operation_fits, shi
 ghost use Rattle.trace.specs.Meaning.{why_number, refusal_number, place_after, entry_of, Answers, RecordSays, InFormAt};
 ghost use Rattle.trace.specs.Sorted.{ValuesFit, SortSays, SortedInto};
 
-// Why a record is refused; whyNumber gives the code.
+// Why a record is refused; why_number gives the code.
 #[derive(Clone, Copy)]
 pub enum Why {
     Length,

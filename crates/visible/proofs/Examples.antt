@@ -1,4 +1,4 @@
--- Visibility is not transitive, even where CC accepts, and Si: by computation on example M. Assumes nothing.
+-- Visibility is not transitive, even where CC accepts, and SI: by computation on example M. Assumes nothing.
 use mathlib.Core.Path.{◌≡◌, refl}
 use mathlib.Core.Option.{none}
 use mathlib.Core.List.{[], ◌∷◌, map}
@@ -14,7 +14,7 @@ use Rattle.store.specs.Missing.{at_key, missing}
 use Rattle.store.specs.Links.{stored, holds, SO, WR, WW, RW, prefix_links, snapshot_links}
 use Rattle.store.specs.Refusal.{old_number, differs, wrong_read, bad_mask, half_held, lost, stray, refuses_event}
 use Rattle.levels.specs.Clause.{leading_to, read_before, session_writes, wants, missing_by}
-use Rattle.levels.specs.Level.{Level, MR, MW, RYW, WFR, CC, UA, PSI, CP, Si, fails_clauses, fails_event, first_failure}
+use Rattle.levels.specs.Level.{Level, MR, MW, RYW, WFR, CC, UA, PSI, CP, SI, fails_clauses, fails_event, first_failure}
 use Rattle.answer.specs.Answer.{final_store, meaningless, verdict}
 use Rattle.visible.specs.Visible.{visible, rows}
 use Rattle.visible.specs.Examples.{seen_not_read, seen_not_read_rows}
@@ -22,7 +22,7 @@ use Rattle.visible.specs.Examples.{seen_not_read, seen_not_read_rows}
 -- none of codes 9 to 14 is due, and the nine levels but SER accept
 pub not-read-accepted :
     (meaningless seen_not_read ≡ none)
-    × (map (λ (l : Level). verdict l seen_not_read) (MR ∷ MW ∷ RYW ∷ WFR ∷ CC ∷ UA ∷ PSI ∷ CP ∷ Si ∷ []) ≡ none ∷ none ∷ none ∷ none ∷ none ∷ none ∷ none ∷ none ∷ none ∷ [])
+    × (map (λ (l : Level). verdict l seen_not_read) (MR ∷ MW ∷ RYW ∷ WFR ∷ CC ∷ UA ∷ PSI ∷ CP ∷ SI ∷ []) ≡ none ∷ none ∷ none ∷ none ∷ none ∷ none ∷ none ∷ none ∷ none ∷ [])
 unfolding count_leading_zeros choose need is_some map_some when or_else first_some any least highest union compose then_maybe plus opening_store opening value_of note_read append update step final first_along at_key missing stored holds SO WR WW RW prefix_links snapshot_links old_number differs wrong_read bad_mask half_held lost stray refuses_event leading_to read_before session_writes wants missing_by fails_clauses fails_event first_failure
 not-read-accepted = (refl, refl)
 

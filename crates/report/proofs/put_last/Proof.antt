@@ -1,6 +1,6 @@
 -- `report::put_last` meets its contract: a line for each level. Assumes nothing.
 use Rattle.text.proofs.Put.{put_both}
-use Rattle.levels.specs.Level.{UA, PSI, CP, Si, SER}
+use Rattle.levels.specs.Level.{UA, PSI, CP, SI, SER}
 use Rattle.report.proofs.Lines.{put-line, put-last-line}
 use borrow.Author.Rules.{rules}
 use Rattle.report.proofs.put_last.Statement.{statement}
@@ -48,7 +48,7 @@ returns c =
       put_both (put-line UA _ first.put-verdict.ensures.0)
           (put_both (put-line PSI _ second.put-verdict2.ensures.0)
           (put_both (put-line CP _ third.put-verdict3.ensures.0)
-          (put_both (put-line Si _ fourth.put-verdict4.ensures.0)
+          (put_both (put-line SI _ fourth.put-verdict4.ensures.0)
           (put-last-line SER _ c.before.before.put-verdict5.ensures.0)))),
       search rules,
     )

@@ -1,7 +1,7 @@
 -- `verdicts::told::verdicts_from` meets its contract. Assumes nothing.
 use native.Mathlib.Omega.{arith}
 use borrow.Author.Rules.{rules}
-use Rattle.levels.specs.Level.{MR, MW, RYW, WFR, CC, UA, PSI, CP, Si, SER}
+use Rattle.levels.specs.Level.{MR, MW, RYW, WFR, CC, UA, PSI, CP, SI, SER}
 use Rattle.verdicts.proofs.Words.{ten-same}
 use Rattle.verdicts.proofs.told.verdicts_from.Statement.{statement}
 use Rattle.verdicts.proofs.told.verdicts_from.Tie as tie
@@ -48,7 +48,7 @@ returns c =
     (c.before.before.before.before.verdict-at6.ensures (fs UA) (k.verdict 5 (omega arith)))
     (c.before.before.before.verdict-at7.ensures (fs PSI) (k.verdict 6 (omega arith)))
     (c.before.before.verdict-at8.ensures (fs CP) (k.verdict 7 (omega arith)))
-    (c.before.verdict-at9.ensures (fs Si) (k.verdict 8 (omega arith)))
+    (c.before.verdict-at9.ensures (fs SI) (k.verdict 8 (omega arith)))
     (c.verdict-at10.ensures (fs SER) (k.verdict 9 (omega arith)))
 
 pub verdicts-from-spec : {M : Type 1} → statement M
