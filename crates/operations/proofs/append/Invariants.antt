@@ -1,0 +1,20 @@
+-- `operations::append` meets its contract. The keys passed have their new versions, the others are as before, and the set is that of the keys passed. Assumes nothing.
+use Rattle.std.proofs.Common.{ℕ, ◌+◌, ◌/◌, ◌<◌, ◌≤◌, ap, arith, rules}
+use Rattle.store.specs.Store.{Store, Commit}
+use Rattle.state.specs.Room.{VersionsRoom, KeysRoom}
+use Rattle.state.specs.Keeps.{IsSet}
+use Rattle.state.specs.Accesses.{Left}
+use Rattle.state.proofs.Accesses.{left-rest, turn_below}
+use Rattle.state.proofs.Below.{From, from-none}
+use Rattle.operations.specs.Given.{Appending}
+use Rattle.operations.specs.PerKey.{WrittenAt}
+use Rattle.operations.proofs.Appended.{WritesPassed, no_writes, earlier-turn, write-appended, all-earlier, writes-appended}
+use Rattle.operations.proofs.append.Given as goal
+
+abbrev pub invariant-loop-left : goal.invariant-loop-left
+invariant-loop-left l =
+    (k : ℕ) × (k ≤ l.n) × Left l.ranks 1 l.n k l.left × VersionsRoom l.versions × KeysRoom l.keys
+    × ((s : Store) (c : Commit) → Appending s c l.initial.versions l.initial.keys l.values l.ranks l.n → WritesPassed s c l.me.0 l.n k l.versions l.keys × IsSet l.earlier (From (WrittenAt s c) k))
+
+abbrev pub decreases-loop-left : goal.decreases-loop-left
+decreases-loop-left l = l.left

@@ -1,0 +1,8 @@
+-- `operations::append_at` meets its contract. Assumes nothing.
+use Rattle.std.proofs.Common.{◌∙◌, rules}
+use Rattle.operations.proofs.append_at.Goals as goal
+
+pub returns : goal.returns
+returns c =
+    let bit = c.wrapping_add_u64-bit.ensures.value in
+    let here = c.newest.ensures in (cc, cc)

@@ -1,0 +1,28 @@
+-- `operations::note_reads` meets its contract. The keys passed are not read wrongly and have their reads noted, the others are as before, and the sets are those of the keys
+-- passed. Assumes nothing.
+use Rattle.std.proofs.Common.{ℕ, ◌+◌, ◌/◌, ◌<◌, ◌≤◌, T, ap, ◌∙◌, arith, rules}
+use Rattle.store.specs.Store.{Key, View, Store, Commit}
+use Rattle.store.specs.Update.{Visible}
+use Rattle.store.specs.Refusal.{wrong_at}
+use Rattle.growth.specs.Ordered.{Ordered}
+use Rattle.state.specs.Room.{VersionsRoom}
+use Rattle.state.specs.Keeps.{IsSet, KeepsKeys}
+use Rattle.state.specs.Accesses.{Left}
+use Rattle.state.proofs.Accesses.{next-key, left-rest, left-none, turn_below}
+use Rattle.state.proofs.Below.{From, from-none}
+use Rattle.operations.specs.Given.{Given}
+use Rattle.operations.specs.PerKey.{ReadAt, LaterAt}
+use Rattle.operations.proofs.Reading.{wrong-skip, wrong-one, wrong-means, wrong-found, wrong-none}
+use Rattle.operations.proofs.PerKey.{source-read, later-read, reads-turn, all-sources, all-later}
+use Rattle.operations.proofs.Noted.{ReadsPassed, no_reads, read-noted, seen-left, reads-noted}
+use Rattle.operations.proofs.note_reads.Given as goal
+
+abbrev pub invariant-loop-left : goal.invariant-loop-left
+invariant-loop-left l =
+    (k : ℕ) × (k ≤ l.n) × Left l.ranks 0 l.n k l.left × VersionsRoom l.versions
+    × ((s : Store) (u : View) (c : Commit) → Given s u c l.initial.versions l.views l.base l.values l.ranks l.n
+    → ((q : Key) → q < k → ¬ T (wrong_at s u c q)) × ReadsPassed s u c l.me.0 l.n k l.versions
+    × (KeepsKeys s l.keys → Ordered s → IsSet l.from (From (ReadAt s u c) k) × IsSet l.over (From (LaterAt s u c) k)))
+
+abbrev pub decreases-loop-left : goal.decreases-loop-left
+decreases-loop-left l = l.left

@@ -1,0 +1,6 @@
+-- `operations::own_version` meets its contract. Assumes nothing.
+use Rattle.std.proofs.Common.{refl, rules}
+use Rattle.operations.proofs.own_version.Goals as goal
+
+pub returns : goal.returns
+returns c = rw c.union.ensures refl
