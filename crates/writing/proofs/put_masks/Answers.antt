@@ -1,0 +1,35 @@
+-- `writing::put_masks` meets its contract. The loop's invariant: the masks passed stand from `at` on. Assumes nothing.
+use Prim.Native.Nat.{◌*◌, ◌-◌, ◌≤◌}
+use mathlib.Core.Path.{◌≡◌, refl, ap, ◌∙◌}
+use native.Mathlib.Omega.{arith}
+use lib.ListN.{length}
+use borrow.Author.Rules.{rules}
+use Rattle.endian.specs.Endian.{le_bytes, put_at, pieces}
+use Rattle.endian.proofs.Put.{put-none, put-piece}
+use Rattle.store.specs.Store.{View}
+use Rattle.trace.specs.Encode.{view_bytes}
+use Rattle.store.proofs.Masks.{length-view_bytes}
+use Rattle.state.specs.Rows.{RowAt}
+use Rattle.writing.proofs.put_masks.Goals as goal
+
+pub loop-k-init : goal.loop-k-init
+unfolding view_bytes pieces
+loop-k-init c = (omega arith, refl, λ u row. put-none _ c.args.at)
+
+pub loop-k-preserved : goal.loop-k-preserved
+unfolding view_bytes
+loop-k-preserved c =
+    let a = c.args in
+    let k = c.loop-k.k in (
+      omega arith,
+      omega arith,
+      λ u row.
+          put-piece a.buffer.now a.at k (8 * k) (λ j. le_bytes 8 (u j)) (c.loop-k.invariant.2 u row) (length-view_bytes k u) (omega arith)
+          c.put_u64.ensures (ap (le_bytes 8) (row k (omega arith))),
+    )
+
+pub returns : goal.returns
+returns c =
+    let a = c.args in
+    let all : c.loop-k.k ≡ a.n = omega arith in
+    λ u row. c.loop-k.invariant.2 u row ∙ ap (λ k. put_at a.buffer.now a.at (view_bytes k u)) all
