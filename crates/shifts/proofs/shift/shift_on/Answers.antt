@@ -1,0 +1,71 @@
+-- `shifts::shift::shift_on` meets its contract. Assumes nothing.
+use Prim.Native.Nat.{◌*◌}
+use mathlib.Core.Path.{◌≡◌, refl, sym, ap, subst, ◌∙◌}
+use lib.ListN.{get_or}
+use native.Mathlib.Omega.{arith}
+use Rattle.search.proofs.Tests.{true-T}
+use Rattle.store.specs.Limits.{max_keys}
+use Rattle.store.specs.Store.{View, Configuration}
+use Rattle.store.specs.Missing.{missing}
+use Rattle.store.specs.Refusal.{all_of}
+use Rattle.state.specs.Answers.{place_of}
+use Rattle.state.specs.Keeps.{KeepsMasks}
+use Rattle.views.specs.Viewed.{NewMasks}
+use Rattle.shifts.specs.Outcomes.{SightSays, ShiftGiven}
+use Rattle.shifts.proofs.Replaced.{shift-replaces}
+use Rattle.shifts.proofs.Refused.{refused-masks, refused-12, not-refused, not_taken, masks-given}
+use borrow.Author.Rules.{rules}
+use Rattle.shifts.proofs.shift.shift_on.Goals as goal
+use Rattle.shifts.proofs.shift.shift_on.Goals.{After-lost, After-sight}
+
+-- ---- places on the way
+
+-- what is given, from where the masks were tested
+abbrev Given : After-sight → Configuration → View → Type 0
+Given c g u = let a = c.args in ShiftGiven g u a.n a.versions.now a.keys.now a.views.now a.seen.now × KeepsMasks a.n u a.fresh.now
+
+given-masks : (c : After-sight) (g : Configuration) (u : View) → Given c g u → let a = c.args in
+    NewMasks g.store (g.views a.client) u a.n a.versions.now a.keys.now a.views.now (max_keys * a.client) (get_or a.seen.now a.client 0) a.fresh.now
+given-masks c g u (h, f) = masks-given g u _ _ _ _ _ _ _ (omega (arith, c.requires.le_n)) h f
+
+said : (c : After-sight) (g : Configuration) (u : View) → Given c g u → SightSays c.args.number g.store u c.sight.result
+said c g u h = c.sight.ensures g.store (g.views _) u (given-masks c g u h)
+
+-- they were found to hold all versions of the client's view, or not
+lost-is : (c : After-lost) (g : Configuration) (u : View)
+    → (let a = c.args in ShiftGiven g u a.n a.versions.now a.keys.now a.views.now a.seen.now × KeepsMasks a.n u a.fresh.now)
+    → place_of c.lost.result ≡ missing g.store (all_of (g.views c.args.client)) u
+lost-is c g u (h, f) =
+    let given = masks-given g u _ _ _ _ _ _ _ (omega (arith, c.requires.le_n)) h f in
+    c.lost.ensures g.store (g.views _) u h.keys-are (h.sound.views _) given.arrays.in-masks f
+
+pub whole_store-requires : goal.whole_store-requires
+whole_store-requires c = record { n_le_max_keys = omega arith; by_index = c.same.ensures.0 (true-T _ c.if-same.true) }
+
+pub returns-then-same : goal.returns-then-same
+returns-then-same c = record {
+  answer = λ g u h f. c.whole_store.ensures.answer g u _ _ h f;
+  kept = λ g u h f. c.whole_store.ensures.kept g u _ h f;
+}
+
+pub returns-in-At : goal.returns-in-At
+returns-in-At c = record {
+  answer = λ g u h f.
+      refused-12 _ g _ u (subst (SightSays _ g.store u) c.in-Holds.is (said (goal.at.returns-in-At c).After-sight g u (h, f))).0
+      (sym (lost-is (goal.at.returns-in-At c).After-lost g u (h, f)) ∙ ap place_of c.in-At.is) c.of_version.ensures;
+  kept = λ g u h f. not_taken _ refl;
+}
+
+pub returns-in-Bad : goal.returns-in-Bad
+returns-in-Bad c = record {
+  answer = λ g u h f. refused-masks _ g _ u (subst (SightSays _ g.store u) c.in-Bad.is (said (goal.at.returns-in-Bad c).After-sight g u (h, f)));
+  kept = λ g u h f. not_taken _ refl;
+}
+
+pub returns-in_default : goal.returns-in_default
+returns-in_default c =
+    let at = (goal.at.returns-in_default c).After-sight in
+    let small = c.requires.le_n in record {
+      answer = λ g u h f. not-refused _ g _ u (subst (SightSays _ g.store u) c.in-Holds.is (said at g u (h, f))).0 (sym (lost-is (goal.at.returns-in_default c).After-lost g u (h, f)) ∙ ap place_of c.in_default.is);
+      kept = λ g u h f e. shift-replaces g _ u _ (omega (arith, small)) h.keys-are (omega (arith, small)) _ _ _ _ _ h.in-views f c.keep.ensures (subst (SightSays _ g.store u) c.in-Holds.is (said at g u (h, f))).1;
+    }
