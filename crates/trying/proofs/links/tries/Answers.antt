@@ -1,0 +1,23 @@
+-- `trying::links::tries` meets its contract. The loop's invariant: of the commits tried, those with a link are in the set. Assumes nothing.
+use Prim.Native.Nat.{◌-◌, ◌≤◌, ◌<◌}
+use mathlib.Core.Path.{◌≡◌}
+use native.Mathlib.Omega.{arith}
+use borrow.Author.Rules.{rules}
+use Rattle.search.proofs.Tests.{both}
+use Rattle.state.specs.Keeps.{IsSet}
+use Rattle.trying.specs.Tries.{LinksTo}
+use Rattle.trying.specs.Recorded.{StoredIn, recorded}
+use Rattle.trying.proofs.Linked.{links-is, tried-none, tried-more}
+use Rattle.trying.proofs.links.tries.Goals as goal
+
+pub loop-a-init : goal.loop-a-init
+loop-a-init c = let a = c.args in (omega arith, c.stored-stored.ensures, tried-none (LinksTo (recorded a.versions.now a.keys.now a.commits.now a.n) a.ends))
+
+pub loop-a-preserved : goal.loop-a-preserved
+loop-a-preserved c =
+    let a = c.args in
+    let l = c.loop-a in
+    (omega arith, l.invariant.1, tried-more l.all l.a c.links_to-linked.result l.invariant.2 (both c.links_to-linked.ensures (links-is a.versions.now a.keys.now a.commits.now a.n c.stored-stored.result l.invariant.1 a.ends l.a)) c.put-all.ensures)
+
+pub returns : goal.returns
+returns c = let e : c.loop-a.a ≡ c.args.most = omega arith in rw e at c.loop-a.invariant.2
