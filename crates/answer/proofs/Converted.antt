@@ -1,8 +1,7 @@
 -- A file that was written in an edition from a taken one is taken as the same trace, so that it gets the same answer and image, and is written
 -- again as the other would be. Assumes nothing.
 use Prim.Native.Nat.{ℕ, ◌≤◌, ◌<◌}
-use mathlib.Core.Path.{◌≡◌, refl, sym, ap, ◌∙◌, subst}
-use mathlib.Core.Bool.{not}
+use mathlib.Core.Path.{◌≡◌, sym, ap, ◌∙◌, subst}
 use mathlib.Core.Option.{Option}
 use mathlib.Core.List.{List}
 use native.Mathlib.Omega.{arith}
@@ -14,7 +13,7 @@ use Rattle.store.specs.Limits.{max_bytes}
 use Rattle.store.specs.Refusal.{Refusal, refuse}
 use Rattle.store.specs.Image.{image}
 use Rattle.trace.specs.Result.{Result, refused, taken, on_taken}
-use Rattle.trace.specs.Format.{Trace, decode}
+use Rattle.trace.specs.Format.{Trace}
 use Rattle.trace.specs.Edition.{Edition, long, encode_in, only_long}
 use Rattle.trace.proofs.Result.{refused-taken, taken-injective, on_taken-taken}
 use Rattle.trace.proofs.Decoded.{decoded-well-formed, decoded-length}

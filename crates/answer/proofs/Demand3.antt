@@ -1,10 +1,10 @@
 -- Demand 3, whole: of the bytes of every trace that is taken. Assumes nothing.
 use Prim.Native.Nat.{ℕ}
-use mathlib.Core.Path.{◌≡◌, refl, sym, ap, ◌∙◌, subst}
+use mathlib.Core.Path.{◌≡◌, refl, ◌∙◌, subst}
 use mathlib.Core.Option.{Option, some, none}
 use mathlib.Core.List.{List}
 use Rattle.endian.specs.Endian.{Bytes}
-use Rattle.store.specs.Store.{Configuration, opening_store, opening}
+use Rattle.store.specs.Store.{opening_store, opening}
 use Rattle.store.specs.Refusal.{Refusal}
 use Rattle.store.proofs.Sound.{sound-opening}
 use Rattle.store.proofs.Run.{legal-run}
@@ -15,7 +15,7 @@ use Rattle.trace.proofs.WellFormed.{WellFormed}
 use Rattle.trace.proofs.Decoded.{decoded-well-formed}
 use Rattle.trace.proofs.Fits.{well-formed-fits}
 use Rattle.answer.specs.Answer.{meaningless, unless, accept}
-use Rattle.answer.specs.Demand3.{Claim, Demand3}
+use Rattle.answer.specs.Demand3.{Demand3}
 use Rattle.answer.proofs.Taken.{Taken}
 use Rattle.answer.proofs.Orders.{si-psi, si-cp, psi-cc, cp-cc, cc-mr, cc-mw, cc-ryw, cc-wfr, earliest-si}
 use Rattle.answer.proofs.Rings.{si-rings, ser-rings}

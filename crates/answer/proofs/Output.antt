@@ -7,7 +7,6 @@ use native.Mathlib.Omega.{arith}
 use lib.Dec.{T, leb, le→leb, leb→le, not_T}
 use lib.ListN.{length, take, drop}
 use lib.Seq.{take_at}
-use Rattle.search.specs.Choose.{need}
 use Rattle.search.proofs.Choose.{choose_yes, choose_no, need-yes, need-no, need-taken}
 use Rattle.endian.specs.Endian.{put_at}
 use Rattle.store.specs.Refusal.{Refusal, refuse}

@@ -1,18 +1,18 @@
 -- The store of a taken trace, and its image: what holds of the stored views, and that the image says the whole store. Assumes nothing.
-use Prim.Native.Nat.{ℕ, suc, ◌+◌, ◌^◌, ◌≤◌, ◌<◌}
+use Prim.Native.Nat.{ℕ, ◌^◌, ◌≤◌, ◌<◌}
 use mathlib.Core.Path.{◌≡◌}
 use mathlib.Core.Option.{some}
 use mathlib.Core.List.{List, [], ◌∷◌}
 use native.Mathlib.Omega.{arith}
 use Rattle.endian.specs.Endian.{Bytes}
 use Rattle.store.specs.Limits.{max_clients, max_commits}
-use Rattle.store.specs.Store.{View, Store, Configuration, opening_store, opening, next_number, write, Commit, Event, shift, commit}
-use Rattle.store.specs.Update.{value_of, view_before, update, step, final}
+use Rattle.store.specs.Store.{Configuration, opening_store, opening, write, Commit, Event, shift, commit}
+use Rattle.store.specs.Update.{value_of, view_before, update, step}
 use Rattle.store.specs.Sound.{Sound, WithinKeys}
 use Rattle.store.specs.Legal.{LegalCommit}
 use Rattle.store.specs.Reading.{FitsImage}
 use Rattle.store.proofs.Sound.{sound-opening}
-use Rattle.store.proofs.Run.{sound-commits, Each, run-keeps, commits_in, final-commits}
+use Rattle.store.proofs.Run.{sound-commits, Each, run-keeps, final-commits}
 use Rattle.store.proofs.StoredView.{stored-views}
 use Rattle.store.proofs.FitsImage.{fits-opening, fits-update}
 use Rattle.store.proofs.Reading.{store_of-image}
@@ -21,7 +21,7 @@ use Rattle.trace.proofs.WellFormed.{FitsEvents, WellFormed}
 use Rattle.trace.proofs.Decoded.{decoded-well-formed}
 use Rattle.trace.proofs.Fits.{value_of-fits}
 use Rattle.answer.specs.Answer.{final_store}
-use Rattle.answer.specs.Recorded.{Recorded, ImageSays}
+use Rattle.answer.specs.Recorded.{ImageSays}
 use Rattle.answer.proofs.Taken.{Taken}
 use Rattle.answer.proofs.Demand3.{accepted-trace, taken-run}
 

@@ -6,7 +6,7 @@ use mathlib.Core.List.{List}
 use lib.ListN.{length, take}
 use Rattle.search.specs.Choose.{map_some}
 use Rattle.endian.specs.Endian.{Bytes}
-use Rattle.trace.specs.Result.{Result, refused, taken, on_taken}
+use Rattle.trace.specs.Result.{refused, taken}
 use Rattle.trace.specs.Format.{Trace}
 use Rattle.trace.proofs.Result.{refused-taken, taken-injective, on_taken-taken}
 use Rattle.trace.proofs.Decoded.{decoded-well-formed}

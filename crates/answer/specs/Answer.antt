@@ -1,9 +1,9 @@
 -- The whole answer of the judge, as one function of the bytes of a trace file and of the image buffer's length (01, Bench codes;
 -- demands 1 and 2). Assumes nothing.
-use Rattle.std.specs.Prelude.{ℕ, ◌≤◌, ◌≡◌, Bool, List, map, length}
+use Rattle.std.specs.Prelude.{ℕ, ◌≤◌, ◌≡◌, List, map, length}
 use Rattle.std.proofs.Math.Option.{Option, some, none}
 use Rattle.store.specs.Limits.{max_image}
-use Rattle.store.specs.Store.{Store, Configuration, opening}
+use Rattle.store.specs.Store.{Store, opening}
 use Rattle.store.specs.Update.{final, first_along}
 use Rattle.store.specs.Refusal.{Refusal, refuses_event}
 use Rattle.store.specs.Image.{image}

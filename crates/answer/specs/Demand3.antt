@@ -1,13 +1,13 @@
 -- Demand 3 (00; 01, The words of demand 3), with the serial run by hand (02, E11): a single claim about the bytes of every taken trace. Assumes nothing.
-use Rattle.std.specs.Prelude.{ℕ, suc, ◌≤◌, min, ◌≡◌, List, [], ◌∷◌, T}
+use Rattle.std.specs.Prelude.{ℕ, suc, ◌≤◌, min, ◌≡◌, List, T}
 use Rattle.std.proofs.Math.Option.{Option, some, none}
 use Rattle.relations.specs.Walk.{Ring, side_by_side_in_ring}
 use Rattle.store.specs.Store.{Store, CommitNumber}
 use Rattle.store.specs.Links.{LinkKind, linked, is_rw}
 use Rattle.store.specs.Image.{image}
-use Rattle.trace.specs.Result.{Result, taken}
+use Rattle.trace.specs.Result.{taken}
 use Rattle.trace.specs.Format.{Trace}
-use Rattle.levels.specs.Level.{Level, MR, MW, RYW, WFR, CC, UA, PSI, CP, SI, SER, Failure}
+use Rattle.levels.specs.Level.{Level, MR, MW, RYW, WFR, CC, PSI, CP, SI, SER, Failure}
 use Rattle.answer.specs.Answer.{final_store, accept, verdict}
 use Rattle.answer.specs.Replay.{replay_trace, replay}
 use Rattle.answer.specs.SerialRun.{all_zero, serial_run, newest_values}

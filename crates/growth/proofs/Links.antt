@@ -6,10 +6,10 @@ use Prim.Native.Nat.{ℕ, ◌<◌}
 use native.Mathlib.Omega.{arith}
 use lib.Dec.{T}
 use Rattle.dependencies.specs.History.{Stored, as-writer, as-reader, SO, session-order, WR, write_read, WW, write-write, RW, read-write}
-use Rattle.store.specs.Store.{Key, VersionNumber, CommitNumber, View, Store, count, version, next_number, Commit}
+use Rattle.store.specs.Store.{CommitNumber, View, Store, count, next_number, Commit}
 use Rattle.store.specs.Update.{reads, writes, newest, update}
 use Rattle.store.specs.History.{Wrote, Read, history}
-use Rattle.growth.specs.Made.{Made, WriterOf, ReaderOf, CommitBy, Operates}
+use Rattle.growth.specs.Made.{Made, Operates}
 use Rattle.growth.proofs.Made.{read-exists, wrote_after, read-after, newer-stored, stored-after, stored-not-new, client-kept, client-new, session-kept, session-new, after}
 use Rattle.growth.specs.Links.{FromSession, FromRead, FromWrite, FromReader, ToLater}
 

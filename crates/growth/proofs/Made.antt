@@ -14,7 +14,6 @@ use Rattle.store.specs.Store.{Key, VersionNumber, CommitNumber, Client, View, St
 use Rattle.store.specs.Update.{reads, writes, newest, update, view_before}
 use Rattle.store.specs.History.{Wrote, Read, Appears, history}
 use Rattle.store.proofs.Updated.{at_same, at_other, wrote-update-is, read-update-is}
-use Rattle.store.specs.View.{IsView}
 use Rattle.store.specs.Sound.{SoundStore, Sound, WithinKeys}
 use Rattle.store.specs.Legal.{LegalCommit}
 use Rattle.store.proofs.Sound.{sound-update}

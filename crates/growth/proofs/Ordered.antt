@@ -10,7 +10,7 @@ use lib.Dec.{T}
 use Rattle.relations.specs.Relation.{alone, followed, Plus, one, more}
 use Rattle.dependencies.specs.History.{SO, session-order, WR, write_read, WW, write-write, RW, read-write, PlainLink, by-SO, by-WR, by-WW, PrefixStep, SnapshotStep}
 use Rattle.dependencies.proofs.Implications.{snapshot-prefix}
-use Rattle.store.specs.Store.{Key, CommitNumber, View, Store, Configuration, opening_store, opening, count, version, next_number, Commit, Event}
+use Rattle.store.specs.Store.{CommitNumber, View, Store, Configuration, opening_store, opening, count, version, next_number, Commit, Event}
 use Rattle.store.specs.Update.{reads, writes, newest, update, step, final}
 use Rattle.store.specs.History.{Wrote, Read, history}
 use Rattle.store.proofs.Updated.{wrote-stays}

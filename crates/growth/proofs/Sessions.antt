@@ -4,7 +4,7 @@ use mathlib.Core.Path.{◌≡◌, refl, subst}
 use mathlib.Core.Logic.{◌⊎◌, inl, inr, ◌↔◌}
 use Prim.Native.Nat.{◌<◌}
 use native.Mathlib.Omega.{arith}
-use Rattle.dependencies.specs.History.{History, Stored, as-reader, SO, session-order, WR, write_read}
+use Rattle.dependencies.specs.History.{Stored, as-reader, SO, session-order, WR, write_read}
 use Rattle.store.specs.Store.{CommitNumber, Client, View, Store, next_number, Commit}
 use Rattle.store.specs.Sound.{SoundStore}
 use Rattle.store.specs.History.{history}

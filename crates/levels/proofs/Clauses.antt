@@ -1,24 +1,23 @@
 -- Nothing is missing by a clause exactly where the clause's meaning holds. Clauses 3, 6 and 7 are one law with the links as a
 -- parameter. Assumes nothing.
-use mathlib.Core.Path.{◌≡◌, refl, sym, ap, ◌∙◌, subst}
-use mathlib.Core.Bool.{Bool, true, false, ◌&&◌, ◌||◌}
+use mathlib.Core.Path.{◌≡◌, refl, sym, subst}
+use mathlib.Core.Bool.{true}
 use mathlib.Core.Logic.{◌⊎◌, inl, inr, ◌↔◌}
-use mathlib.Core.Option.{Option, some, none}
-use Prim.Native.Nat.{ℕ, ◌≤◌, ◌<◌}
+use mathlib.Core.Option.{none}
+use Prim.Native.Nat.{ℕ, ◌<◌}
 use native.Mathlib.Omega.{arith}
 use lib.Dec.{T}
 use Rattle.search.specs.Choose.{choose}
-use Rattle.search.specs.Search.{any}
-use Rattle.search.proofs.Tests.{same, both, and_is, or_is, eq_is}
+use Rattle.search.proofs.Tests.{same, and_is, or_is, eq_is}
 use Rattle.search.proofs.Search.{any-is}
 use Rattle.sets.specs.Set.{has}
 use Rattle.relations.specs.Relation.{Relation}
 use Rattle.relations.proofs.Closure.{Means}
 use Rattle.dependencies.specs.History.{Holds, Closed, ReadYourWrites, MonotonicWrites, WriteFollowsReads, UpdateAtomic, ConsistentPrefix, SnapshotIsolation, Serialisable}
 use Rattle.dependencies.specs.History as D
-use Rattle.store.specs.Store.{Key, VersionNumber, CommitNumber, View, Store, count, version, next_number, Commit}
+use Rattle.store.specs.Store.{CommitNumber, View, Store, count, version, next_number, Commit}
 use Rattle.store.specs.Update.{writes, update}
-use Rattle.store.specs.Missing.{Place, Rule, missing}
+use Rattle.store.specs.Missing.{missing}
 use Rattle.store.specs.Links.{wrote, has_read, holds, SO, prefix_links, snapshot_links, one_or_more}
 use Rattle.store.specs.Refusal.{all_of}
 use Rattle.store.specs.History.{history, held}

@@ -1,22 +1,21 @@
 -- A commit fails no clause of a level exactly where all of them hold; which levels imply which, at one commit. Assumes nothing.
-use mathlib.Core.Path.{◌≡◌, refl, sym, ap, ◌∙◌, subst}
-use mathlib.Core.Logic.{◌⊎◌, inl, inr, ◌↔◌}
+use mathlib.Core.Path.{◌≡◌, refl, sym, ap}
+use mathlib.Core.Logic.{◌↔◌}
 use mathlib.Core.Option.{Option, some, none}
 use mathlib.Core.List.{List, [], ◌∷◌}
-use Prim.Native.Nat.{ℕ, ◌≤◌, ◌<◌}
-use lib.Dec.{T}
+use Prim.Native.Nat.{ℕ}
 use Rattle.search.specs.Choose.{map_some, or_else}
 use Rattle.search.proofs.Tests.{both, some-none, map-none, or_else-none}
 use Rattle.dependencies.proofs.Implications.{7→6, 6→3, 6→4, 7→3, 7→4, 8→3, 8→4, 8→5, 8→6, 8→7}
-use Rattle.store.specs.Store.{CommitNumber, View, Store, Configuration, next_number, Commit}
-use Rattle.store.specs.Update.{writes, update, view_before, store_after}
+use Rattle.store.specs.Store.{View, Store, Configuration, next_number, Commit}
+use Rattle.store.specs.Update.{update, view_before}
 use Rattle.store.specs.Missing.{Place}
 use Rattle.store.specs.View.{IsView}
 use Rattle.store.specs.Sound.{SoundStore}
 use Rattle.store.specs.History.{history, held}
 use Rattle.store.proofs.Links.{reads-written}
 use Rattle.levels.specs.Clause.{Clause, monotonic_reads, read_your_writes, monotonic_writes, writes_follow_reads, update_atomic, consistent_prefix, snapshot_isolation, serialisability, missing_by}
-use Rattle.levels.specs.Level.{Level, MR, MW, RYW, WFR, CC, UA, PSI, CP, SI, SER, clauses_of, Failure, failure, fails_clauses}
+use Rattle.levels.specs.Level.{Level, MR, MW, RYW, WFR, CC, PSI, CP, SI, SER, clauses_of, Failure, failure, fails_clauses}
 use Rattle.levels.proofs.Clauses.{Says, clause-is}
 
 -- every clause of a list holds

@@ -1,12 +1,12 @@
 -- The eight clauses (01, Clauses and levels; clause 2 as 02 amends it, E4; 001's figure of execution tests), each as the versions that it wants.
 -- Assumes nothing.
-use Rattle.std.specs.Prelude.{ℕ, suc, Bool, true, false, ◌&&◌, ◌||◌, eqb}
-use Rattle.std.proofs.Math.Option.{Option, some, none}
+use Rattle.std.specs.Prelude.{ℕ, Bool, true, false, ◌&&◌, ◌||◌}
+use Rattle.std.proofs.Math.Option.{Option}
 use Rattle.search.specs.Choose.{choose}
 use Rattle.search.specs.Search.{any}
 use Rattle.relations.specs.Relation.{Relation}
-use Rattle.store.specs.Store.{Key, VersionNumber, CommitNumber, View, Store, Configuration, version, next_number, Commit}
-use Rattle.store.specs.Update.{writes, update, view_before, store_after}
+use Rattle.store.specs.Store.{CommitNumber, View, Store, version, next_number, Commit}
+use Rattle.store.specs.Update.{writes, update}
 use Rattle.store.specs.Missing.{Place, Rule, missing}
 use Rattle.store.specs.Links.{wrote, has_read, holds, SO, prefix_links, snapshot_links, one_or_more}
 use Rattle.store.specs.Refusal.{all_of}

@@ -1,6 +1,6 @@
 -- The ten levels, and the first commit that fails one (01, Clauses and levels; demand 2). Assumes nothing.
-use Rattle.std.specs.Prelude.{ℕ, suc, List, [], ◌∷◌}
-use Rattle.std.proofs.Math.Option.{Option, some, none}
+use Rattle.std.specs.Prelude.{ℕ, List, [], ◌∷◌}
+use Rattle.std.proofs.Math.Option.{Option, none}
 use Rattle.search.specs.Choose.{map_some, or_else}
 use Rattle.store.specs.Store.{Key, VersionNumber, CommitNumber, View, Store, Configuration, next_number, Commit, Event, shift, commit}
 use Rattle.store.specs.Update.{view_before, first_along}

@@ -1,9 +1,9 @@
 -- An image has room for every store that a trace makes: for the opening store, and after a commit where before it. Assumes nothing.
-use Prim.Native.Nat.{ℕ, suc, ◌+◌, ◌^◌, ◌≤◌, ◌<◌}
+use Prim.Native.Nat.{ℕ, ◌^◌, ◌≤◌, ◌<◌}
 use mathlib.Core.Path.{◌≡◌, refl, sym, ap, ◌∙◌, subst}
 use mathlib.Core.Logic.{◌≢◌}
 use mathlib.Core.Option.{Option, some, none}
-use mathlib.Core.List.{List, [], ◌∷◌}
+use mathlib.Core.List.{List, []}
 use native.Mathlib.Omega.{arith}
 use native.Mathlib.Decide.{ℕ_discrete, dec_lt}
 use lib.Dec.{lit<, ltb}
@@ -11,7 +11,7 @@ use lib.ListN.{length, get_or, set, length-append, length-set, get_or-append}
 use lib.Seq.{get_or-set_same, get_or-set_other, get_or-append_seam}
 use Rattle.sets.proofs.Algebra.{insert-word}
 use Rattle.store.specs.Limits.{max_keys, max_clients, max_commits}
-use Rattle.store.specs.Store.{CommitNumber, Value, Version, opening_version, View, no_view, Store, opening_store, opening, count, version, next_number, write, Commit}
+use Rattle.store.specs.Store.{CommitNumber, Value, Version, opening_version, View, no_view, Store, opening_store, opening, next_number, write, Commit}
 use Rattle.store.specs.Update.{value_of, read_by, note_read, append, at_number, update}
 use Rattle.store.specs.View.{FitsView}
 use Rattle.store.specs.Sound.{SoundStore}

@@ -1,25 +1,22 @@
 -- A record is refused with none of codes 9 to 14 exactly where the store takes it. Assumes nothing.
-use mathlib.Core.Path.{◌≡◌, refl, sym, ap, ◌∙◌, subst}
-use mathlib.Core.Bool.{Bool, true, false, ◌&&◌, ◌||◌, not}
-use mathlib.Core.Logic.{◌⊎◌, inl, inr, ◌↔◌, ◌≢◌}
+use mathlib.Core.Path.{◌≡◌, refl, sym, ◌∙◌, subst}
+use mathlib.Core.Bool.{◌&&◌, ◌||◌, not}
+use mathlib.Core.Logic.{◌⊎◌, inl, inr, ◌↔◌}
 use mathlib.Core.Option.{Option, some, none}
-use Prim.Native.Nat.{ℕ, zero, suc, ◌+◌, ◌^◌, ◌≤◌, ◌<◌}
+use Prim.Native.Nat.{ℕ, ◌≤◌, ◌<◌}
 use native.Mathlib.Omega.{arith}
 use native.Mathlib.Decide.{dec_lt, ℕ_discrete}
 use lib.Dec.{T, eqb, ltb, leb, T_not, not_T}
-use lib.ListN.{length, get_or}
-use Rattle.search.specs.Choose.{is_some, map_some, when, first_some}
-use Rattle.search.specs.Search.{any, least}
-use Rattle.search.proofs.Tests.{same, both, and_is, or_is, not_is, eq_is, lt-is, le_is, stable, some-none, map-none, when-none, NoneOf, first_some-none, some_of, is_some-some, or_left, or_right, or_cases, T?}
+use Rattle.search.specs.Search.{any}
+use Rattle.search.proofs.Tests.{same, both, and_is, or_is, not_is, eq_is, lt-is, le_is, stable, map-none, when-none, first_some-none, is_some-some, or_left, or_right, or_cases}
 use Rattle.search.proofs.Search.{any-is, least-none}
-use Rattle.sets.specs.Set.{Set, has, width}
+use Rattle.sets.specs.Set.{has, width}
 use Rattle.sets.proofs.Laws.{has-none, has-lt}
-use Rattle.store.specs.Store.{Key, VersionNumber, CommitNumber, Client, Value, View, Store, Configuration, count, version, next_number, read, write, Commit, Event, shift, commit}
-use Rattle.store.specs.Update.{value_of, reads, writes, touches, Visible, newest_visible, update, view_before, store_after, step}
-use Rattle.store.specs.Missing.{Place, missing}
-use Rattle.store.specs.Links.{wrote, has_read, somewhere, stored, holds}
-use Rattle.store.specs.Refusal.{Refusal, refuse, refuse_key, refuse_place, not_above, old_number, differs, wrong_at, wrong_read, bad_mask_at, bad_mask, whole_writers, half_held, all_of, lost, stray_at, stray, refuses_event}
-use Rattle.store.specs.History.{Wrote, Read, Appears, InLog}
+use Rattle.store.specs.Store.{Key, VersionNumber, CommitNumber, Client, Value, View, Store, Configuration, count, version, next_number, read, Commit, shift, commit}
+use Rattle.store.specs.Update.{value_of, reads, writes, touches, Visible, newest_visible, update, view_before, store_after}
+use Rattle.store.specs.Links.{wrote, has_read, stored, holds}
+use Rattle.store.specs.Refusal.{not_above, old_number, differs, wrong_at, wrong_read, bad_mask_at, bad_mask, whole_writers, half_held, all_of, lost, stray_at, stray, refuses_event}
+use Rattle.store.specs.History.{Wrote, Appears, InLog}
 use Rattle.store.specs.View.{IsView, FitsView}
 use Rattle.store.specs.Sound.{SoundStore, Sound, WithinKeys}
 use Rattle.store.specs.Legal.{LegalShift, LegalCommit}

@@ -1,15 +1,14 @@
 -- The history of a store, and that each test of specs/Links.antt says what the link means. Assumes nothing.
-use mathlib.Core.Path.{◌≡◌, refl, sym, ap, ◌∙◌, subst}
-use mathlib.Core.Bool.{Bool, true, false, ◌&&◌, ◌||◌, not}
-use mathlib.Core.Logic.{◌⊎◌, inl, inr, ◌↔◌, ◌≢◌}
-use Prim.Native.Nat.{ℕ, zero, suc, ◌≤◌, ◌<◌}
+use mathlib.Core.Path.{◌≡◌, refl}
+use mathlib.Core.Bool.{Bool, ◌&&◌, not}
+use mathlib.Core.Logic.{inl, inr, ◌↔◌, ◌≢◌}
+use Prim.Native.Nat.{ℕ, ◌<◌}
 use native.Mathlib.Omega.{arith}
 use lib.Dec.{T, eqb, ltb}
 use Rattle.search.specs.Search.{any}
-use Rattle.search.proofs.Tests.{same, both, and_is, or_is, not_is, eq_is, lt-is}
+use Rattle.search.proofs.Tests.{same, both, and_is, not_is, eq_is, lt-is}
 use Rattle.search.proofs.Search.{any-is}
-use Rattle.sets.specs.Set.{has}
-use Rattle.relations.specs.Relation.{Relation, union, then_maybe, plus, ThenMaybe, Plus}
+use Rattle.relations.specs.Relation.{Relation, union, ThenMaybe, Plus}
 use Rattle.relations.specs.Within.{Within}
 use Rattle.relations.proofs.Within.{LeadsTo, within-is-plus}
 use Rattle.relations.proofs.Closure.{Means, Below, union-means, then_maybe-means, plus-means-as}
@@ -20,8 +19,8 @@ use Rattle.dependencies.proofs.Implications.{ReadsWritten, snapshot_step-is}
 use Rattle.dependencies.proofs.Rings.{LinkThat}
 use Rattle.store.specs.Store.{Key, VersionNumber, CommitNumber, View, Store, count, version, next_number}
 use Rattle.store.specs.Missing.{Rule}
-use Rattle.store.specs.Links.{wrote, has_read, somewhere, stored, holds, SO, WR, earlier_later, WW, RW, LinkKind, so, wr, ww, rw as rw-kind, linked, is_rw, with_rw, prefix_links, snapshot_links, one_or_more}
-use Rattle.store.specs.History.{Wrote, Read, Appears, history, held}
+use Rattle.store.specs.Links.{wrote, has_read, stored, holds, SO, WR, earlier_later, WW, RW, LinkKind, so, wr, ww, rw as rw-kind, linked, is_rw, with_rw, prefix_links, snapshot_links, one_or_more}
+use Rattle.store.specs.History.{Appears, history, held}
 use Rattle.store.specs.Sound.{SoundStore}
 use Rattle.store.proofs.Missing.{somewhere-is}
 use Rattle.store.proofs.Legal.{stored_is, holds-is}

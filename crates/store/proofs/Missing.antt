@@ -1,17 +1,17 @@
 -- What the search for a missing version answers: nothing exactly where each version that the rule wants is in the view. Assumes nothing.
-use mathlib.Core.Path.{◌≡◌, refl, sym, ap, ◌∙◌, subst}
-use mathlib.Core.Bool.{Bool, true, false, ◌&&◌, ◌||◌, not}
-use mathlib.Core.Logic.{◌⊎◌, inl, inr, ◌↔◌}
+use mathlib.Core.Path.{◌≡◌, refl, ap, ◌∙◌}
+use mathlib.Core.Bool.{not}
+use mathlib.Core.Logic.{◌↔◌}
 use mathlib.Core.Option.{Option, some, none}
-use Prim.Native.Nat.{ℕ, ◌≤◌, ◌<◌}
+use Prim.Native.Nat.{ℕ, ◌<◌}
 use lib.Dec.{T, T_not, not_T}
 use Rattle.search.specs.Choose.{map_some}
 use Rattle.search.specs.Search.{any, least}
-use Rattle.search.proofs.Tests.{and_left, and_right, and_both, stable, some-none, map-none, same, and_is, or_is, eq_is}
+use Rattle.search.proofs.Tests.{and_left, and_right, and_both, stable, map-none}
 use Rattle.search.proofs.Search.{any-in, any_out, any-is, Least, found, missed, least-is, least-none, least-found}
 use Rattle.sets.specs.Set.{has}
-use Rattle.store.specs.Store.{Key, VersionNumber, CommitNumber, View, Store, count, version}
-use Rattle.store.specs.Missing.{Place, Rule, lacks, missing_at, at_key, missing}
+use Rattle.store.specs.Store.{Key, VersionNumber, View, Store, count}
+use Rattle.store.specs.Missing.{Rule, lacks, missing_at, at_key, missing}
 use Rattle.store.specs.Links.{somewhere}
 use Rattle.store.specs.Sound.{SoundStore}
 

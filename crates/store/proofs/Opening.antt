@@ -6,7 +6,7 @@ use lib.Dec.{T, ltb}
 use Rattle.sets.specs.Set.{has}
 use Rattle.sets.proofs.Laws.{has-none}
 use Rattle.dependencies.proofs.Opening.{Opening}
-use Rattle.store.specs.Store.{Version, Store, opening_store, opening, count}
+use Rattle.store.specs.Store.{Version, opening_store, opening, count}
 use Rattle.store.proofs.Sound.{opening-first, sound-opening}
 use Rattle.store.specs.History.{history}
 

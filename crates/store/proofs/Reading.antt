@@ -1,11 +1,10 @@
 -- An image read back is the store that it was made of, where the store has no more than an image has room for. Assumes nothing.
 use Prim.Native.Nat.{ℕ, zero, suc, ◌+◌, ◌-◌, ◌*◌, ◌≤◌, ◌<◌}
 use mathlib.Core.Path.{◌≡◌, refl, sym, ap, ap₂, ◌∙◌, subst, fun_ext}
-use mathlib.Core.Bool.{Bool, ◌&&◌}
 use mathlib.Core.List.{List, [], ◌∷◌, ◌++◌}
 use native.Mathlib.Omega.{arith}
 use native.Mathlib.Decide.{dec_lt}
-use lib.Dec.{T, ltb, leb, lit<}
+use lib.Dec.{T, ltb, leb}
 use lib.ListN.{length, get_or, length-append}
 use Rattle.search.specs.Choose.{choose}
 use Rattle.search.proofs.Choose.{choose_yes, choose_no}
@@ -13,7 +12,7 @@ use Rattle.search.proofs.Tests.{same, and_is, not_is, lt-is, le_is, T?}
 use Rattle.endian.specs.Endian.{le_at, le_bytes, pieces}
 use Rattle.endian.proofs.Laws.{pieces-first, pieces-split}
 use Rattle.endian.proofs.Stands.{Stands, stands-whole, stands_at, stands-as, stands-first, stands-second, stands-behind, stands-piece, read_first, read-fitting}
-use Rattle.store.specs.Store.{Key, CommitNumber, Version, opening_version, no_view, Store, count, version}
+use Rattle.store.specs.Store.{Key, CommitNumber, Version, opening_version, no_view, Store, count}
 use Rattle.store.specs.Image.{version_bytes, key_bytes, commit_bytes, image_body, image}
 use Rattle.store.specs.Masks.{view_bytes, view_at}
 use Rattle.store.specs.Reading.{image_keys, image_commits, commit_size, commit_place, is_commit, key_place, version_at, versions_at, key_at, store_of, FitsVersion, FitsImage}

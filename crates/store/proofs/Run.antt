@@ -1,17 +1,16 @@
 -- Runs: lists of records each of which is legal on what the one before left. Assumes nothing.
-use mathlib.Core.Path.{◌≡◌, refl, sym, ap, ◌∙◌, subst}
-use mathlib.Core.Logic.{◌⊎◌, inl, inr, ◌↔◌}
-use mathlib.Core.Option.{Option, some, none}
+use mathlib.Core.Path.{◌≡◌, refl}
+use mathlib.Core.Logic.{◌↔◌}
+use mathlib.Core.Option.{none}
 use mathlib.Core.List.{List, [], ◌∷◌}
-use Prim.Native.Nat.{ℕ, zero, suc, ◌+◌, ◌≤◌, ◌<◌}
+use Prim.Native.Nat.{ℕ, suc, ◌+◌}
 use native.Mathlib.Omega.{arith}
-use Rattle.search.specs.Choose.{or_else}
-use Rattle.search.proofs.Tests.{both, or_else-none}
-use Rattle.store.specs.Store.{Client, View, Store, Configuration, next_number, Commit, Event, shift, commit}
-use Rattle.store.specs.Update.{update, view_before, store_after, step, final, first_along}
-use Rattle.store.specs.Refusal.{Refusal, refuses_event}
-use Rattle.store.specs.View.{IsView, FitsView}
-use Rattle.store.specs.Sound.{SoundStore, Sound, WithinKeys}
+use Rattle.search.proofs.Tests.{or_else-none}
+use Rattle.store.specs.Store.{Client, View, Configuration, Commit, Event, shift, commit}
+use Rattle.store.specs.Update.{update, step, final, first_along}
+use Rattle.store.specs.Refusal.{refuses_event}
+use Rattle.store.specs.View.{FitsView}
+use Rattle.store.specs.Sound.{Sound, WithinKeys}
 use Rattle.store.specs.Legal.{LegalShift, LegalCommit}
 use Rattle.store.proofs.Sound.{sound-shift, sound-commit}
 use Rattle.store.proofs.Legal.{legal-shift, legal-commit}

@@ -2,22 +2,21 @@
 use mathlib.Core.Path.{◌≡◌, refl, sym, ap, ◌∙◌, subst}
 use mathlib.Core.Bool.{Bool, true, false}
 use mathlib.Core.Logic.{◌⊎◌, inl, inr, ◌≢◌}
-use mathlib.Core.Option.{Option, some, none}
 use mathlib.Core.List.{List, [], ◌∷◌}
-use Prim.Native.Nat.{ℕ, zero, suc, ◌+◌, ◌^◌, ◌≤◌, ◌<◌}
+use Prim.Native.Nat.{ℕ, zero, suc, ◌^◌, ◌≤◌, ◌<◌}
 use native.Mathlib.Omega.{arith}
-use native.Mathlib.Decide.{ℕ_discrete, dec_lt}
-use lib.Dec.{T, eqb, ltb, lt→ltb, ltb→lt, lit<}
+use native.Mathlib.Decide.{ℕ_discrete}
+use lib.Dec.{T, ltb, lt→ltb, ltb→lt, lit<}
 use lib.ListN.{length, get_or}
 use Rattle.search.specs.Choose.{choose}
-use Rattle.search.proofs.Tests.{T?, T_true, T_false}
+use Rattle.search.proofs.Tests.{T?}
 use Rattle.sets.specs.Set.{has}
 use Rattle.sets.proofs.Laws.{has-none, has-lt}
-use Rattle.store.specs.Store.{Key, VersionNumber, CommitNumber, Client, Version, opening_version, View, Store, Configuration, opening_store, opening, count, version, next_number, read, write, Commit, Event, shift, commit}
-use Rattle.store.specs.Update.{value_of, reads, writes, newest, at_number, update, view_before, store_after, step}
+use Rattle.store.specs.Store.{Key, Client, Version, opening_version, View, Store, Configuration, opening_store, opening, count, next_number, Commit, shift, commit}
+use Rattle.store.specs.Update.{reads, writes, newest, at_number, update, view_before, store_after, step}
 use Rattle.store.specs.History.{Wrote, Read}
 use Rattle.store.proofs.Updated.{at_same, at_other, count-update, wrote-update, read-update, untouched}
-use Rattle.store.specs.View.{IsView, FitsView}
+use Rattle.store.specs.View.{IsView}
 use Rattle.store.specs.Sound.{SoundStore, Sound, WithinKeys}
 
 -- ---- the opening

@@ -1,17 +1,14 @@
 -- The views in the store (02, E8): each is a view of the store as it was before its commit. A view of a store is, of every later store,
 -- a view of it as it was, and nothing else is. Assumes nothing.
-use Prim.Native.Nat.{ℕ, suc, ◌≤◌, ◌<◌}
+use Prim.Native.Nat.{ℕ, ◌≤◌, ◌<◌}
 use native.Mathlib.Omega.{arith}
-use mathlib.Core.Path.{◌≡◌, refl, sym, ap, ◌∙◌, subst}
-use mathlib.Core.Logic.{◌≢◌, ◌↔◌}
-use mathlib.Core.List.{List, [], ◌∷◌}
+use mathlib.Core.Path.{◌≡◌, refl, sym, ◌∙◌, subst}
+use mathlib.Core.Logic.{◌↔◌}
+use mathlib.Core.List.{List}
 use native.Mathlib.Decide.{ℕ_discrete}
 use Rattle.search.proofs.Tests.{both}
-use lib.Dec.{T}
-use Rattle.sets.specs.Set.{has}
-use Rattle.store.specs.Store.{Key, CommitNumber, Client, View, Store, Configuration, opening_store, opening, count, version, next_number, Commit, Event, shift, commit}
+use Rattle.store.specs.Store.{CommitNumber, View, Store, Configuration, opening_store, opening, count, version, next_number, Commit, Event}
 use Rattle.store.specs.Update.{at_number, update, view_before, store_after, step, final}
-use Rattle.store.specs.History.{Wrote}
 use Rattle.store.specs.View.{IsView}
 use Rattle.store.specs.Sound.{SoundStore, Sound}
 use Rattle.store.proofs.Updated.{at_same, at_other, count-update, wrote-stays}

@@ -1,10 +1,10 @@
 -- What a commit changes in the versions of one key, and in the tables. Callers reach `update` through these laws. Assumes nothing.
 use mathlib.Core.Path.{◌≡◌, refl, sym, ap, ◌∙◌, subst}
-use mathlib.Core.Bool.{Bool, true, false, ◌&&◌, ◌||◌, not}
+use mathlib.Core.Bool.{true}
 use mathlib.Core.Logic.{◌⊎◌, inl, inr, ◌↔◌, ◌≢◌}
 use mathlib.Core.Option.{Option, some, none}
-use mathlib.Core.List.{List, [], ◌∷◌, ◌++◌}
-use Prim.Native.Nat.{ℕ, zero, suc, ◌+◌, ◌≤◌, ◌<◌}
+use mathlib.Core.List.{List, []}
+use Prim.Native.Nat.{ℕ, suc, ◌≤◌, ◌<◌}
 use native.Mathlib.Omega.{arith}
 use native.Mathlib.Decide.{ℕ_discrete, dec_lt}
 use lib.Dec.{T}
@@ -12,11 +12,10 @@ use lib.ListN.{length, get_or, set, length-append, length-set, get_or-append}
 use lib.Seq.{get_or-set_same, get_or-set_other, get_or-append_seam}
 use Rattle.search.specs.Choose.{is_some}
 use Rattle.search.proofs.Choose.{choose-same, choose-other}
-use Rattle.search.proofs.Tests.{T?, or_left, or_right, is_some-some, is_some-none, not_is, some_of}
-use Rattle.sets.specs.Set.{has, insert, highest}
+use Rattle.sets.specs.Set.{has}
 use Rattle.sets.proofs.Laws.{insert-has, has-insert, insert-self, has-none}
-use Rattle.store.specs.Store.{Key, VersionNumber, CommitNumber, Value, Version, opening_version, View, Store, Configuration, count, version, next_number, read, write, Operation, Commit}
-use Rattle.store.specs.Update.{value_of, reads, writes, touches, newest, read_by, note_read, append, at_number, update}
+use Rattle.store.specs.Store.{Key, CommitNumber, Value, Version, opening_version, View, Store, count, version, next_number, read, write, Commit}
+use Rattle.store.specs.Update.{value_of, reads, writes, newest, read_by, note_read, append, at_number, update}
 use Rattle.store.specs.History.{Wrote, Read}
 
 -- ---- tables

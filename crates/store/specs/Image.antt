@@ -1,5 +1,5 @@
 -- "The image" (01), byte for byte. Assumes nothing.
-use Rattle.std.specs.Prelude.{ℕ, suc, ◌+◌, ◌*◌, ◌≤◌, ◌<◌, List, [], ◌∷◌, ◌++◌, length}
+use Rattle.std.specs.Prelude.{ℕ, suc, ◌+◌, ◌≤◌, ◌<◌, List, ◌++◌, length}
 use Rattle.endian.specs.Endian.{le_bytes, pieces}
 use Rattle.store.specs.Masks.{view_bytes}
 use Rattle.store.specs.Store.{Key, CommitNumber, Version, Store, count, version}

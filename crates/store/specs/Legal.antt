@@ -3,7 +3,7 @@
 use Rattle.std.specs.Prelude.{ℕ, ◌<◌, ◌≡◌, T}
 use Rattle.std.proofs.Math.Option.{some}
 use Rattle.sets.specs.Set.{has}
-use Rattle.store.specs.Store.{Key, CommitNumber, Client, View, Store, Configuration, read, Commit}
+use Rattle.store.specs.Store.{Key, CommitNumber, Client, View, Configuration, read, Commit}
 use Rattle.store.specs.Update.{value_of, reads, writes, newest_visible, view_before, store_after}
 use Rattle.store.specs.History.{InLog}
 use Rattle.store.specs.View.{IsView}

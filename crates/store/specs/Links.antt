@@ -1,9 +1,9 @@
 -- The links between the commits of a store, each as a test (01, Clauses and levels; 001's figure: SO, WR, WW, RW). Assumes nothing.
-use Rattle.std.specs.Prelude.{ℕ, suc, Bool, true, false, ◌&&◌, ◌||◌, not, eqb, ltb}
+use Rattle.std.specs.Prelude.{Bool, true, false, ◌&&◌, ◌||◌, not, eqb, ltb}
 use Rattle.search.specs.Search.{any}
 use Rattle.sets.specs.Set.{has}
 use Rattle.relations.specs.Relation.{Relation, union, then_maybe, plus}
-use Rattle.store.specs.Store.{Key, VersionNumber, CommitNumber, View, Store, count, version, next_number}
+use Rattle.store.specs.Store.{CommitNumber, View, Store, count, version, next_number}
 use Rattle.store.specs.Missing.{Rule}
 
 -- commit t wrote version i of key k

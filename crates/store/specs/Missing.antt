@@ -1,6 +1,6 @@
 -- The one search for a missing version: "the search stops at the first missing version, by key and then version" (01, Clauses
 -- and levels). Codes 11 and 12 and all eight clauses are this search with another rule. Assumes nothing.
-use Rattle.std.specs.Prelude.{ℕ, Bool, ◌&&◌, not}
+use Rattle.std.specs.Prelude.{Bool, ◌&&◌, not}
 use Rattle.std.proofs.Math.Option.{Option, some, none}
 use Rattle.search.specs.Choose.{map_some}
 use Rattle.search.specs.Search.{any, least}

@@ -1,10 +1,10 @@
 -- "Bench codes" (01): what a refusal answers, and codes 9 to 14, which are about the meaning of a record. Assumes nothing.
-use Rattle.std.specs.Prelude.{ℕ, suc, Bool, true, false, ◌&&◌, ◌||◌, not, List, [], ◌∷◌, eqb, ltb, leb}
+use Rattle.std.specs.Prelude.{ℕ, Bool, false, ◌&&◌, ◌||◌, not, [], ◌∷◌, eqb, ltb, leb}
 use Rattle.std.proofs.Math.Option.{Option, some, none}
-use Rattle.search.specs.Choose.{is_some, map_some, when, first_some}
+use Rattle.search.specs.Choose.{map_some, when, first_some}
 use Rattle.search.specs.Search.{any, least}
-use Rattle.sets.specs.Set.{Set, has, width}
-use Rattle.store.specs.Store.{Key, VersionNumber, CommitNumber, Client, Value, View, Store, Configuration, count, version, next_number, read, write, Commit, Event, shift, commit}
+use Rattle.sets.specs.Set.{has, width}
+use Rattle.store.specs.Store.{Key, VersionNumber, CommitNumber, Value, View, Store, Configuration, count, version, next_number, read, Commit, Event, shift, commit}
 use Rattle.store.specs.Update.{value_of, touches, Visible, newest_visible, view_before, store_after}
 use Rattle.store.specs.Missing.{Place, Rule, missing}
 use Rattle.store.specs.Links.{holds}

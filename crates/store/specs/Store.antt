@@ -1,5 +1,5 @@
 -- "Store and views" (01; 000 calls the pair of store and views a configuration): what there is. Assumes nothing.
-use Rattle.std.specs.Prelude.{ℕ, suc, ◌<◌, Bool, List, [], ◌∷◌, ltb, length, get_or}
+use Rattle.std.specs.Prelude.{ℕ, suc, List, [], ◌∷◌, ltb, length, get_or}
 use Rattle.search.specs.Choose.{choose}
 use Rattle.sets.specs.Set.{Set}
 
