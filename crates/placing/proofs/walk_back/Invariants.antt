@@ -1,0 +1,12 @@
+-- `placing::walk_back` meets its contract. Assumes nothing.
+use borrow.Author.Rules.{rules}
+use mathlib.Core.Path.{sym, ◌∙◌}
+use native.Mathlib.Omega.{arith}
+use Rattle.placing.proofs.Way.{Walked, walk_start, walk-all, walk-found, walk-next}
+use Rattle.placing.proofs.walk_back.Given as goal
+
+abbrev pub invariant-loop-left : goal.invariant-loop-left
+invariant-loop-left l = Walked l.rows l.n l.placed l.start l.way l.at l.passed l.c l.left
+
+abbrev pub decreases-loop-left : goal.decreases-loop-left
+decreases-loop-left l = l.left
