@@ -2,7 +2,7 @@
 use Prim.Native.Nat.{◌+◌, ◌*◌, ◌^◌, ◌≤◌, ◌<◌}
 use native.Mathlib.Omega.{arith}
 use lib.ListN.{length}
-use Rattle.reading.proofs.Shaped.{Shaped, shaped-is, shaped-short}
+use Rattle.reading.proofs.Shaped.{shaped-is, shaped-short}
 use Rattle.reading.proofs.Keys.{start_is, body-long}
 use Rattle.reading.proofs.Linked.{keep-links}
 use borrow.Author.Rules.{rules}
