@@ -9,7 +9,7 @@ use Rattle.search.proofs.Tests.{and_is, or_left, or_right, or_cases, eq_is, lt-i
 use Rattle.sets.specs.Set.{has}
 use Rattle.dependencies.specs.History as D
 use Rattle.store.specs.Store.{Key, CommitNumber, Store, count, version, next_number}
-use Rattle.store.specs.Links.{WR, WW, RW, LinkKind, so, wr, ww, rw as rw-kind}
+use Rattle.store.specs.Links.{LinkKind, so, wr, ww, rw as rw-kind}
 use Rattle.store.specs.History.{Wrote, Read, history}
 use Rattle.store.specs.Sound.{SoundStore}
 use Rattle.store.proofs.Links.{wr-means, ww-means, rw-means}

@@ -1,10 +1,10 @@
 -- Visibility on every taken trace (02, E14). Assumes nothing.
 use Prim.Native.Nat.{ℕ, suc, ◌<◌}
 use native.Mathlib.Omega.{arith}
-use mathlib.Core.Path.{◌≡◌, subst}
+use mathlib.Core.Path.{subst}
 use mathlib.Core.List.{List}
 use Rattle.endian.specs.Endian.{Bytes}
-use Rattle.store.specs.Store.{CommitNumber, Store, opening_store, opening, version, next_number}
+use Rattle.store.specs.Store.{Store, opening_store, opening, version, next_number}
 use Rattle.store.specs.Update.{step, final}
 use Rattle.store.specs.History.{Wrote, Read, held}
 use Rattle.store.specs.Sound.{SoundStore}
