@@ -50,8 +50,8 @@ loop-left-preserved c =
     let w = c.requires.0 in
     let l = c.loop-left.invariant in
     let same : length c.write_one-to.new.buffer ≡ length c.loop-left.buffer = omega arith in (
-      c.full-in-loop-left-1.given,
-      c.values-in-loop-left-1.given,
+      omega (arith, l.0),
+      omega (arith, l.1),
       same ∙ l.2,
       λ t d. written_on (l.3 t d) (bytes (goal.at.loop-left-preserved c).After-known_at-known) w.few-clients (some_left (goal.at.loop-left-preserved c).After-known_at-known) _ _ (says (goal.at.loop-left-preserved c).After-known_at-known) c.write_one-to.ensures.wrote c.write_one-to.ensures.value same,
     )
