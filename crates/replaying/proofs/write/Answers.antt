@@ -1,0 +1,33 @@
+-- `replaying::write` meets its contract: nothing is asked of the bytes of a file. Assumes nothing.
+use mathlib.Core.Path.{sym, subst}
+use lib.ListN.{length}
+use Rattle.endian.specs.Endian.{Bytes}
+use Rattle.answer.specs.Written.{replay_answer, ReadsBack}
+use Rattle.answer.proofs.Written.{reads-back, replay-fits}
+use Rattle.taking.proofs.Cases.{says-refused, says-taken}
+use Rattle.replaying.proofs.Answered.{ends_with, refused-replay}
+use borrow.Author.Rules.{rules}
+use Rattle.replaying.proofs.write.Goals as goal
+use Rattle.replaying.proofs.write.Goals.{After-take}
+
+-- the bytes of the file are bytes
+bytes : (c : goal.After-take) → Bytes c.args.file.now
+bytes c i = (c.type_inv.file i).fits
+
+pub finish-requires : goal.finish-requires
+finish-requires c =
+    let taken = c.take.ensures in
+    ends_with (says-taken _ _ _ _ _ taken.4 c.in-Taken.is).1
+
+pub returns-in-Refused : goal.returns-in-Refused
+unfolding replay_answer
+returns-in-Refused c =
+    let file = c.args.file.now in
+    let buffer = c.args.buffer.now in
+    let a = refused-replay file buffer _ (says-refused _ _ _ _ _ c.take.ensures.4 c.in-Refused.is) in record { answer = a.said; written = a.left; back = subst (ReadsBack file (length buffer)) (sym a.left) (reads-back file (bytes (goal.at.returns-in-Refused c).After-take) buffer); longest = replay-fits file (bytes (goal.at.returns-in-Refused c).After-take) }
+
+pub returns-in-Taken : goal.returns-in-Taken
+returns-in-Taken c =
+    let file = c.args.file.now in
+    let buffer = c.args.buffer.now in
+    let a = c.finish.ensures in record { answer = a.0; written = a.1; back = subst (ReadsBack file (length buffer)) (sym a.1) (reads-back file (bytes (goal.at.returns-in-Taken c).After-take) buffer); longest = replay-fits file (bytes (goal.at.returns-in-Taken c).After-take) }
