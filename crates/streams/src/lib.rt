@@ -1,12 +1,16 @@
-// Descriptors read to their end and written whole, for programs. A failure is told in a line on standard error, with its reason, and answered.
-// A call that a signal interrupted is made again. So is one that found nothing ready, on a descriptor that does not wait, after a pause; after
+// Streams read to their end and written whole, for programs. A failure is told in a line on standard error, with its reason, and answered.
+// A call that a signal interrupted is made again. So is one that found nothing ready, on a stream that does not wait, after a pause; after
 // an hour of pauses without a byte it counts as failed.
+#![tactic(auto)]
+
 ghost use Rattle.std.specs.Prelude.{◌≡◌, true, ◌+◌, ◌≤◌, ◌<◌, length};
 ghost use Rattle.streams.specs.Input.{bytes_read, Within};
 
-use libc::types::timespec;
+use std::io::{Cursor, Error, ErrorKind, Read, Write};
+use std::thread;
+use std::time::Duration;
 
-// How the reading of a descriptor ended.
+// How the reading of a stream ended.
 #[derive(Drop)]
 pub enum Input {
     // All was read that was asked for, or as much as the buffer takes: so many bytes.
@@ -19,73 +23,97 @@ pub enum Input {
 const PATIENCE: usize = 360000;
 
 // Waits for 10 milliseconds.
-fn pause() {
-    let asked = timespec {
-        tv_sec: 0,
-        tv_nsec: 10000000,
-    };
-    let mut left = timespec {
-        tv_sec: 0,
-        tv_nsec: 0,
-    };
-    libc::nanosleep(&asked, &mut left);
+fn pause(rt: &HostRuntime) {
+    thread::sleep(rt, Duration::from_millis(10));
+}
+
+// The reason of the system's alone, of a text that has the system's number behind it in brackets.
+fn without_number(text: &[u8]) -> &[u8] {
+    match text.iter().rposition(|byte| *byte == b'(') {
+        Some(bracket) => &text[..bracket.saturating_sub(1)],
+        None => text,
+    }
+}
+
+// Tells of a failure in a line on standard error: what it is told of, and the reason. Where that cannot be written there is nobody to tell.
+fn tell(rt: &HostRuntime, name: &[u8], reason: &[u8]) {
+    let mut to = rt.stderr();
+    let _ = to.write_all(name);
+    let _ = to.write_all(b": ");
+    let _ = to.write_all(reason);
+    let _ = to.write_all(b"\n");
+}
+
+// Tells of a call that failed, in the system's words where the failure is the system's.
+pub fn tell_error(rt: &HostRuntime, name: &[u8], error: Error) {
+    let mut text = [0u8; 320];
+    let mut at = Cursor::new(&mut text[..]);
+    let _ = write!(at, "{error}");
+    let length = usize::try_from(at.position()).unwrap_or(0).min(320);
+    let reason = &text[..length];
+    match error.raw_os_error() {
+        Some(_) => tell(rt, name, without_number(reason)),
+        None => tell(rt, name, reason),
+    }
 }
 
 // Whether a call that moved no byte is to be made again, where it may be so often more; where not, the failure is told.
-fn again(left: usize, name: &[u8]) -> bool
+fn again(rt: &HostRuntime, left: usize, name: &[u8], error: Error) -> bool
     ensures { result ≡ true → 0 < left }
 {
-    let error = os::errno();
     if 0 < left {
-        if error == libc::EINTR {
+        if error.kind() == ErrorKind::Interrupted {
             return true;
         }
-        if error == libc::EAGAIN {
-            pause();
+        if error.kind() == ErrorKind::WouldBlock {
+            pause(rt);
             return true;
         }
     }
-    os::fail(name);
+    tell_error(rt, name, error);
     false
 }
 
 // Reads what there is, as soon as there is any, and no more than the buffer takes: 0 bytes at the end of the input, or for an empty buffer; `name` is what a
 // failure is told of.
-pub fn read_some(fd: i32, name: &[u8], buffer: &mut [u8]) -> Input
+pub fn read_some<R: Read>(rt: &HostRuntime, from: &mut R, name: &[u8], buffer: &mut [u8]) -> Input
     ensures { Within result buffer.new }
 {
     let mut left = PATIENCE;
     loop {
-        let got = libc::read(fd, buffer);
-        if got == 0 {
-            return Input::Whole(0);
+        match from.read(buffer) {
+            Ok(n) => return Input::Whole(n),
+            Err(error) => {
+                if !again(rt, left, name, error) {
+                    return Input::Failed;
+                }
+                left = left - 1;
+            }
         }
-        let n = io::count(got, buffer);
-        if n > 0 {
-            return Input::Whole(n);
-        }
-        if !again(left, name) {
-            return Input::Failed;
-        }
-        left = left - 1;
     }
 }
 
 // Reads to the part of the buffer from `done` on.
-fn read_on(fd: i32, name: &[u8], buffer: &mut [u8], done: usize) -> Input
+fn read_on<R: Read>(
+    rt: &HostRuntime,
+    from: &mut R,
+    name: &[u8],
+    buffer: &mut [u8],
+    done: usize,
+) -> Input
     requires { done ≤ length buffer.old }
     ensures { done + bytes_read result ≤ length buffer.new }
 {
-    read_some(fd, name, &mut buffer[done..])
+    read_some(rt, from, name, &mut buffer[done..])
 }
 
 // Reads to the end of the input, or until the buffer is full; `name` is what a failure is told of.
-pub fn read_whole(fd: i32, name: &[u8], buffer: &mut [u8]) -> Input
+pub fn read_whole<R: Read>(rt: &HostRuntime, from: &mut R, name: &[u8], buffer: &mut [u8]) -> Input
     ensures { Within result buffer.new }
 {
     let mut done: usize = 0;
     while done < buffer.len() {
-        let Input::Whole(n) = read_on(fd, name, buffer, done) else {
+        let Input::Whole(n) = read_on(rt, from, name, buffer, done) else {
             return Input::Failed;
         };
         if n == 0 {
@@ -97,30 +125,30 @@ pub fn read_whole(fd: i32, name: &[u8], buffer: &mut [u8]) -> Input
 }
 
 // Tells of a write that took no byte and did not fail: there is no reason of the system's to tell.
-fn none_taken(name: &[u8]) {
-    io::write_all(libc::STDERR_FILENO, name);
-    io::write_all(libc::STDERR_FILENO, b": no byte was taken\n");
+fn none_taken(rt: &HostRuntime, name: &[u8]) {
+    tell(rt, name, b"no byte was taken");
 }
 
 // Writes all of the text, at once where the system takes it, and answers whether it was written whole; `name` is what a failure is told of.
-pub fn write_whole(fd: i32, name: &[u8], text: &[u8]) -> bool {
+pub fn write_whole<W: Write>(rt: &HostRuntime, to: &mut W, name: &[u8], text: &[u8]) -> bool {
     let mut done: usize = 0;
     let mut left = PATIENCE;
     while done < text.len() {
-        let got = libc::write(fd, &text[done..]);
-        if got == 0 {
-            none_taken(name);
-            return false;
-        }
-        let more = io::count(got, &text[done..]);
-        if more > 0 {
-            done = done + more;
-            left = PATIENCE;
-        } else {
-            if !again(left, name) {
+        match to.write(&text[done..]) {
+            Ok(0) => {
+                none_taken(rt, name);
                 return false;
             }
-            left = left - 1;
+            Ok(more) => {
+                done = done + more;
+                left = PATIENCE;
+            }
+            Err(error) => {
+                if !again(rt, left, name, error) {
+                    return false;
+                }
+                left = left - 1;
+            }
         }
     }
     true
