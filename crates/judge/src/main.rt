@@ -1,18 +1,18 @@
 // Judges the trace file on standard input and prints the report. Input that cannot be read is no file: it gets a line on standard error and no report.
 #![tactic(auto)]
 
-use libc::{STDIN_FILENO, STDOUT_FILENO};
 use store::Store;
 use streams::Input;
 
-fn main() {
+fn main(rt: HostRuntime) {
     // Room for one byte more than a file may have, so that a longer input is seen to be too long.
     let mut file = [0u8; Store::BYTES + 1];
-    let Input::Whole(n) = streams::read_whole(STDIN_FILENO, b"standard input", &mut file) else {
+    let Input::Whole(n) = streams::read_whole(&rt, &mut rt.stdin(), b"standard input", &mut file)
+    else {
         return;
     };
     let mut image = [0u8; Store::IMAGE];
     let mut text = [0u8; report::LONGEST];
     let length = report::write(judging::judge(&file[..n], &mut image), &mut text);
-    streams::write_whole(STDOUT_FILENO, b"standard output", &text[..length]);
+    streams::write_whole(&rt, &mut rt.stdout(), b"standard output", &text[..length]);
 }

@@ -4,35 +4,35 @@
 
 use arranging::Arrangement;
 use judging::Answer;
-use libc::{STDIN_FILENO, STDOUT_FILENO};
 use placing::Shown;
 use state::Refusal;
 use store::Store;
 use streams::Input;
 
 // The line of a refusal.
-fn print_refusal(refusal: Refusal) {
+fn print_refusal(rt: &HostRuntime, refusal: Refusal) {
     let mut text = [0u8; report::LONGEST];
     let length = report::write(Answer::Refused(refusal), &mut text);
-    streams::write_whole(STDOUT_FILENO, b"standard output", &text[..length]);
+    streams::write_whole(rt, &mut rt.stdout(), b"standard output", &text[..length]);
 }
 
 // The line of an order or a ring.
-fn print_shown(shown: Shown, commits: &[u8]) {
+fn print_shown(rt: &HostRuntime, shown: Shown, commits: &[u8]) {
     let mut text = [0u8; listing::LONGEST];
     let length = listing::write(shown, commits, &mut text);
-    streams::write_whole(STDOUT_FILENO, b"standard output", &text[..length]);
+    streams::write_whole(rt, &mut rt.stdout(), b"standard output", &text[..length]);
 }
 
-fn main() {
+fn main(rt: HostRuntime) {
     // Room for one byte more than an image may have, so that a longer input is seen to be too long.
     let mut image = [0u8; Store::IMAGE + 1];
-    let Input::Whole(n) = streams::read_whole(STDIN_FILENO, b"standard input", &mut image) else {
+    let Input::Whole(n) = streams::read_whole(&rt, &mut rt.stdin(), b"standard input", &mut image)
+    else {
         return;
     };
     let mut commits = [0u8; Store::COMMITS];
     match arranging::judge_image(&image[..n], &mut commits) {
-        Arrangement::Refused(refusal) => print_refusal(refusal),
-        Arrangement::Shown(shown) => print_shown(shown, &commits),
+        Arrangement::Refused(refusal) => print_refusal(&rt, refusal),
+        Arrangement::Shown(shown) => print_shown(&rt, shown, &commits),
     }
 }

@@ -2,17 +2,16 @@
 // that cannot be read is no file: it gets a line on standard error and no report.
 #![tactic(auto)]
 
-use libc::{STDIN_FILENO, STDOUT_FILENO};
 use store::Store;
 use streams::Input;
 
-fn main() {
+fn main(rt: HostRuntime) {
     let mut kept = [0u8; Store::BYTES];
     let mut piece = [0u8; 4096];
     let mut session = pieces::open();
     // What comes after a file is seen to be too long changes nothing, and is not waited for.
     while session.total <= Store::BYTES {
-        let Input::Whole(n) = streams::read_some(STDIN_FILENO, b"standard input", &mut piece) else {
+        let Input::Whole(n) = streams::read_some(&rt, &mut rt.stdin(), b"standard input", &mut piece) else {
             return;
         };
         if n == 0 {
@@ -26,5 +25,5 @@ fn main() {
     let end = pieces::finish(session, &kept, &mut image);
     let answer = end.answer;
     let length = report::write(answer, &mut text);
-    streams::write_whole(STDOUT_FILENO, b"standard output", &text[..length]);
+    streams::write_whole(&rt, &mut rt.stdout(), b"standard output", &text[..length]);
 }

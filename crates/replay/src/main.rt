@@ -5,15 +5,15 @@ use replaying::Replay;
 use store::Store;
 use streams::Input;
 
-fn main() {
+fn main(rt: HostRuntime) {
     // Room for one byte more than a file may have, so that a longer input is seen to be too long.
     let mut file = [0u8; Store::BYTES + 1];
-    let Input::Whole(n) = filters::read_file(&mut file) else {
+    let Input::Whole(n) = filters::read_file(&rt, &mut file) else {
         return;
     };
     let mut buffer = [0u8; Store::REPLAY];
     match replaying::write(&file[..n], &mut buffer) {
-        Replay::Refused(refusal) => filters::refuse(refusal),
-        Replay::Written(size) => filters::write_file(&buffer, size),
+        Replay::Refused(refusal) => filters::refuse(&rt, refusal),
+        Replay::Written(size) => filters::write_file(&rt, &buffer, size),
     }
 }

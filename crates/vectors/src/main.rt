@@ -2,11 +2,17 @@
 #![tactic(auto)]
 
 ghost use Rattle.std.specs.Prelude.{◌+◌, ◌≤◌, length};
+ghost use Rattle.streams.specs.Input.{Within};
 ghost use Rattle.report.specs.Longest.{longest_report};
 
-use libc::STDOUT_FILENO;
+use std::env::{Env, FillError};
+use std::io::{Error, ErrorKind};
+use std::{fs, str};
 use store::Store;
 use streams::Input;
+
+// No path of the system's is longer.
+const NAME: usize = 4096;
 
 // The name of the file, a line feed and the report, at the start of `out`: so many bytes.
 fn put_report(out: &mut [u8], name: &[u8], file: &[u8]) -> usize
@@ -19,30 +25,45 @@ fn put_report(out: &mut [u8], name: &[u8], file: &[u8]) -> usize
     from + report::write(judging::judge(file, &mut image), &mut out[from..])
 }
 
-// The file that argument i names; whether to go on with the next.
-fn judge_argument(i: usize) -> bool {
-    let mut name = io::buffer();
-    let length = os::arg(i, &mut name);
-    let fd = os::open_read(&name[..length]);
-    if fd < 0 {
-        os::fail(&name[..length]);
-        return true;
-    }
-    let mut file = [0u8; Store::BYTES + 1];
-    let input = streams::read_whole(fd, &name[..length], &mut file);
-    libc::close(fd);
-    let Input::Whole(n) = input else {
-        return true;
+// The file of that name, or as much of it as the buffer takes. One that cannot be opened is told of as one that cannot be read.
+fn read_file(rt: &HostRuntime, name: &[u8], file: &mut [u8]) -> Input
+    ensures { Within result file.new }
+{
+    let Ok(path) = str::from_utf8(name) else {
+        streams::tell_error(rt, name, Error::from(ErrorKind::InvalidFilename));
+        return Input::Failed;
     };
-    let mut out = [0u8; libc::PATH_MAX + 1 + report::LONGEST];
-    let whole = put_report(&mut out, &name[..length], &file[..n]);
-    streams::write_whole(STDOUT_FILENO, b"standard output", &out[..whole])
+    match fs::open(rt, path) {
+        Ok(mut opened) => streams::read_whole(rt, &mut opened, name, file),
+        Err(error) => {
+            streams::tell_error(rt, name, error);
+            Input::Failed
+        }
+    }
 }
 
-fn main() {
-    let count = os::arg_count();
-    let mut i: usize = 1;
-    while i < count && judge_argument(i) {
-        i = i + 1;
+// The file that argument i names; whether to go on with the next.
+fn judge_argument(rt: &HostRuntime, i: usize) -> bool {
+    let mut name = [0u8; NAME];
+    let length = match rt.arg(i, &mut name) {
+        Ok(n) => n,
+        // It names no file, and is told of as the empty name.
+        Err(FillError::TooLong) => 0,
+        Err(FillError::NotPresent) => return false,
+    };
+    let mut file = [0u8; Store::BYTES + 1];
+    let Input::Whole(n) = read_file(rt, &name[..length], &mut file) else {
+        return true;
+    };
+    let mut out = [0u8; NAME + 1 + report::LONGEST];
+    let whole = put_report(&mut out, &name[..length], &file[..n]);
+    streams::write_whole(rt, &mut rt.stdout(), b"standard output", &out[..whole])
+}
+
+fn main(rt: HostRuntime) {
+    for i in 1..usize::MAX {
+        if !judge_argument(&rt, i) {
+            break;
+        }
     }
 }
