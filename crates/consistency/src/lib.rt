@@ -1,6 +1,7 @@
 // Every call for callers in Rust and C, each with all that is promised of it. A call is lent a trace file or an image, the places that it writes to, and words
 // for its answer; it answers a code, and nothing is asked of its caller. Which word is what stands in crates/words/specs/Layout.antt: a refusal has the same
-// words for all calls. What the answer is stands in the definitions that the contracts name.
+// words for all calls. What the answer is stands in the definitions that the contracts name. The archive for callers is that of crates/consistency_c, which
+// has a call of the same name for each of these, with the same promises.
 #![tactic(auto)]
 
 mod sessions; // sessions.rt: the close of a session, with the record by value
@@ -33,8 +34,7 @@ use pieces::Session;
 // Judges a trace file: ten verdicts, and the image of its store at the start of `image`; or a refusal with codes 1 to 15, and `image` as it came.
 // Where there is no room for the words nothing is judged. No file has an image longer than `max_image` bytes: with such a buffer there is no code 15. Read back, the
 // image says the whole store, and each view in it is one of the store as it was before its commit.
-#[unsafe(no_mangle)]
-pub extern "C" fn judge_file(file: &[u8], image: &mut [u8], out: &mut [u64]) -> u64
+pub fn judge_file(file: &[u8], image: &mut [u8], out: &mut [u64]) -> u64
     ensures room { length out.old < answer_length
         → (result ≡ no_room) × (out.new ≡ out.old) × (image.new ≡ image.old) }
     ensures answer { answer_length ≤ length out.old
@@ -53,8 +53,7 @@ pub extern "C" fn judge_file(file: &[u8], image: &mut [u8], out: &mut [u64]) -> 
 
 // Judges a trace file by the plain second engine (02, E10): the words that `judge_file` writes where its image buffer is long enough, for every file; no image is
 // written, and code 15 is not used. Where there is no room for the words nothing is judged.
-#[unsafe(no_mangle)]
-pub extern "C" fn plain_file(file: &[u8], out: &mut [u64]) -> u64
+pub fn plain_file(file: &[u8], out: &mut [u64]) -> u64
     ensures room { length out.old < answer_length → (result ≡ no_room) × (out.new ≡ out.old) }
     ensures answer { answer_length ≤ length out.old
         → (result ≡ code_of (plain_answer file.now)) × (out.new ≡ put_at out.old 0 (answer_words (plain_answer file.now))) }
@@ -71,8 +70,7 @@ pub extern "C" fn plain_file(file: &[u8], out: &mut [u64]) -> u64
 // a refusal with codes 1 to 14; 16, where serialisability does not accept the trace; 17, where `buffer` is shorter than the file; and `buffer` as it
 // came. What was written reads back with the same store and image, and all levels accept it. No replay is longer than `max_replay` bytes. Where there is no
 // room for the words of a refusal nothing is done.
-#[unsafe(no_mangle)]
-pub extern "C" fn replay_file(file: &[u8], buffer: &mut [u8], out: &mut [u64]) -> u64
+pub fn replay_file(file: &[u8], buffer: &mut [u8], out: &mut [u64]) -> u64
     ensures room { length out.old < refusal_length
         → (result ≡ no_room) × (out.new ≡ out.old) × (buffer.new ≡ buffer.old) }
     ensures answer { refusal_length ≤ length out.old
@@ -109,8 +107,7 @@ fn convert_file(file: &[u8], buffer: &mut [u8], out: &mut [u64], edition: Editio
 // a kind 5. Or a refusal with codes 1 to 14; 22, where the file would be longer than 65,536 bytes; 17, where `buffer` is shorter than the file; and `buffer` as
 // it came. What was written gets the same answer and image, and written long it is what the other would be. Where there is no room for the words of a
 // refusal nothing is done.
-#[unsafe(no_mangle)]
-pub extern "C" fn short_file(file: &[u8], buffer: &mut [u8], out: &mut [u64]) -> u64
+pub fn short_file(file: &[u8], buffer: &mut [u8], out: &mut [u64]) -> u64
     ensures room { length out.old < refusal_length
         → (result ≡ no_room) × (out.new ≡ out.old) × (buffer.new ≡ buffer.old) }
     ensures answer { refusal_length ≤ length out.old
@@ -123,8 +120,7 @@ pub extern "C" fn short_file(file: &[u8], buffer: &mut [u8], out: &mut [u64]) ->
 }
 
 // The same, long: each shift as a kind 2, each commit as a kind 3.
-#[unsafe(no_mangle)]
-pub extern "C" fn long_file(file: &[u8], buffer: &mut [u8], out: &mut [u64]) -> u64
+pub fn long_file(file: &[u8], buffer: &mut [u8], out: &mut [u64]) -> u64
     ensures room { length out.old < refusal_length
         → (result ≡ no_room) × (out.new ≡ out.old) × (buffer.new ≡ buffer.old) }
     ensures answer { refusal_length ≤ length out.old
@@ -141,8 +137,7 @@ pub extern "C" fn long_file(file: &[u8], buffer: &mut [u8], out: &mut [u64]) -> 
 // its length is answered. Or a refusal with code 20, where the image is misshapen; 17, where `shown` has under 63 bytes; and `shown` as it came. The image
 // that is written for a trace is never misshapen, and has an order where serialisability accepts the trace. Where there is no room for the words of a
 // refusal nothing is done.
-#[unsafe(no_mangle)]
-pub extern "C" fn judge_image(image: &[u8], shown: &mut [u8], out: &mut [u64]) -> u64
+pub fn judge_image(image: &[u8], shown: &mut [u8], out: &mut [u64]) -> u64
     ensures room { length out.old < refusal_length
         → (result ≡ no_room) × (out.new ≡ out.old) × (shown.new ≡ shown.old) }
     ensures answer { refusal_length ≤ length out.old
@@ -161,8 +156,7 @@ pub extern "C" fn judge_image(image: &[u8], shown: &mut [u8], out: &mut [u64]) -
 // set exactly if commit c is visible to it, bit 0 never; further rows keep what they had. Or the refusal of `judge_file`; or 21, where there are fewer rows than
 // commits, and then `image` is left as `judge_file` leaves it. Any refusal leaves `rows` as it came. Where there is no room for the words nothing is
 // judged. What holds of the rows, whatever was judged, is `Visibility`.
-#[unsafe(no_mangle)]
-pub extern "C" fn visibility_file(
+pub fn visibility_file(
     file: &[u8],
     image: &mut [u8],
     rows: &mut [u64],
@@ -185,8 +179,7 @@ pub extern "C" fn visibility_file(
 
 // The report on a trace file as text, at the start of `text`, and its length; `image` is left as `judge_file` leaves it. Where `text` is shorter than the
 // longest report nothing is judged, and 0 is answered.
-#[unsafe(no_mangle)]
-pub extern "C" fn report_file(file: &[u8], image: &mut [u8], text: &mut [u8]) -> usize
+pub fn report_file(file: &[u8], image: &mut [u8], text: &mut [u8]) -> usize
     ensures room { length text.old < longest_report
         → (result ≡ 0) × (text.new ≡ text.old) × (image.new ≡ image.old) }
     ensures report { longest_report ≤ length text.old
@@ -206,8 +199,7 @@ pub extern "C" fn report_file(file: &[u8], image: &mut [u8], text: &mut [u8]) ->
 // ---- a trace file that comes in pieces (02, E5)
 
 // Opens a session: `session` is a record that has taken no bytes, whatever it was.
-#[unsafe(no_mangle)]
-pub extern "C" fn open_session(session: &mut Session)
+pub fn open_session(session: &mut Session)
     ensures { (session.new ≡ opened) × ((kept : List ℕ) → Has [] session.new kept) }
 {
     *session = pieces::open();
@@ -215,8 +207,7 @@ pub extern "C" fn open_session(session: &mut Session)
 
 // Takes a piece, behind those before it: 0; or 18 after the close, and nothing is changed. The bytes are kept in `kept`, as far as it has room and a file
 // may have them, and all are counted.
-#[unsafe(no_mangle)]
-pub extern "C" fn push_piece(session: &mut Session, kept: &mut [u8], piece: &[u8]) -> u64
+pub fn push_piece(session: &mut Session, kept: &mut [u8], piece: &[u8]) -> u64
     ensures piece { (result ≡ piece_code session.old)
         × (session.new ≡ counted session.old (length piece.now))
         × (kept.new ≡ kept_after session.old kept.old piece.now) }
@@ -228,8 +219,7 @@ pub extern "C" fn push_piece(session: &mut Session, kept: &mut [u8], piece: &[u8
 // Judges what was kept, as `judge_file` does a file, and closes the session; or a refusal with codes 1 to 15; 17, where what came has no room in `kept`; 18,
 // after the close, and nothing is changed. A refusal leaves `image` as it came, and has closed. Where there is no room for the words nothing is done, and
 // the session stays as it was. The answer for a record that has taken some bytes, with a buffer that has room for them, is that of `judge_file` for these bytes.
-#[unsafe(no_mangle)]
-pub extern "C" fn close_session(
+pub fn close_session(
     session: &mut Session,
     kept: &[u8],
     image: &mut [u8],
@@ -252,8 +242,7 @@ pub extern "C" fn close_session(
 
 // The report on what was kept, as `report_file` writes it, and its length; the session is closed, and `image` left, as `close_session` does. Where `text` is
 // shorter than the longest report nothing is done, the session stays as it was, and 0 is answered.
-#[unsafe(no_mangle)]
-pub extern "C" fn report_session(
+pub fn report_session(
     session: &mut Session,
     kept: &[u8],
     image: &mut [u8],
