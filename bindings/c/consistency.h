@@ -1,6 +1,6 @@
 /* The proved calls on trace files and images, for callers in C and C++ on x86-64.
  *
- *     rt staticlib consistency
+ *     tools/archive
  *     cc -I bindings/c YOUR.c target/staticlib/libconsistency.a
  *
  * crates/consistency/src/lib.rt says what is proved of each call. docs/FORMAT.md has the trace file, its two editions, the image and its

@@ -1,5 +1,5 @@
-//! Links the proved calls: `rt staticlib consistency` writes them below the
-//! repository's `target`.
+//! Links the proved calls: `tools/archive` writes them below the repository's
+//! `target`.
 
 use std::env;
 use std::path::PathBuf;
@@ -10,9 +10,7 @@ fn main() {
     let library = folder.join("libconsistency.a");
     println!("cargo:rerun-if-changed={}", library.display());
     if !library.exists() {
-        panic!(
-            "there is no target/staticlib/libconsistency.a: `rt staticlib consistency` writes it"
-        );
+        panic!("there is no target/staticlib/libconsistency.a: `tools/archive` writes it");
     }
     println!("cargo:rustc-link-search=native={}", folder.display());
     println!("cargo:rustc-link-lib=static=consistency");

@@ -80,10 +80,10 @@ impl Program {
 
 /// Where the program of this name was built.
 pub fn built(name: &str) -> PathBuf {
-    let path = at("target/bin").join(name);
+    let path = at("crates").join(name).join("out").join(name);
     assert!(
         path.exists(),
-        "there is no target/bin/{name}: `rt check {name}` builds it"
+        "there is no crates/{name}/out/{name}: `rt run` in crates/{name} builds it"
     );
     path
 }

@@ -1,4 +1,4 @@
-//! The programs, as `rt check` builds them: what each has to say of the bytes on
+//! The programs, as `rt run` builds them: what each has to say of the bytes on
 //! its standard input is the model's. `judge`, `port` and `plain` print the report;
 //! `replay`, `short`, `long` and `image` write a file, or tell the refusal on
 //! standard error and write nothing.
