@@ -50,9 +50,7 @@ put_head-requires c =
     (omega arith, omega arith, w.few-keys, w.few-clients, w.few-records)
 
 pub write-requires : goal.write-requires
-write-requires c =
-    let same = c.buffer-1.given in
-    (c.requires.in-form, λ t d. let size = c.size-whole.ensures t d in omega arith)
+write-requires c = (c.requires.in-form, λ t d. let size = c.size-whole.ensures t d in omega arith)
 
 pub returns : goal.returns
 unfolding convert_answer

@@ -52,8 +52,8 @@ loop-left-preserved c =
     let w = c.requires in
     let l = c.loop-left.invariant in
     let called = c.one_length-sum.ensures in (
-      c.views-in-loop-left-1.given,
-      c.fresh-in-loop-left-1.given,
+      omega arith,
+      omega arith,
       omega (arith, called.few, l.2, some_left (goal.at.loop-left-preserved c).After-known_at-known),
       λ t d. reckoned-on (edition_of c.args.edition) (l.3 t d) (bytes (goal.at.loop-left-preserved c).After-known_at-known) w.few-clients (some_left (goal.at.loop-left-preserved c).After-known_at-known) _ _ (says (goal.at.loop-left-preserved c).After-known_at-known) called.reckoned called.on,
     )

@@ -47,10 +47,10 @@ pub loop-left-preserved : goal.loop-left-preserved
 loop-left-preserved c =
     let w = c.requires.0 in
     let l = c.loop-left.invariant in
-    let same = c.buffer-1.given in
+    let same : length c.write_one-to.new.buffer ≡ length c.loop-left.buffer = omega arith in
     let put = c.write_one-to.ensures in (
-      c.views-in-loop-left-1.given,
-      c.fresh-in-loop-left-1.given,
+      omega arith,
+      omega arith,
       same ∙ l.2,
       λ t d. written_on (edition_of c.args.edition) (l.3 t d) (bytes (goal.at.loop-left-preserved c).After-known_at-known) w.few-clients (some_left (goal.at.loop-left-preserved c).After-known_at-known) _ _ (says (goal.at.loop-left-preserved c).After-known_at-known) put.next put.put put.on same,
     )
