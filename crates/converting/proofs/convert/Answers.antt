@@ -1,0 +1,38 @@
+-- `converting::convert` meets its contract: nothing is asked of the bytes of a file. Assumes nothing.
+use mathlib.Core.Path.{sym, subst}
+use lib.ListN.{length}
+use Rattle.endian.specs.Endian.{Bytes}
+use Rattle.trace.specs.Edition.{Edition}
+use Rattle.answer.specs.Converted.{convert_answer, WrittenSame}
+use Rattle.answer.proofs.Converted.{written_same}
+use Rattle.taking.proofs.Cases.{says-refused, says-taken}
+use Rattle.converting.specs.Answers.{edition_of}
+use Rattle.converting.proofs.Answered.{ends_with, refused-file}
+use borrow.Author.Rules.{rules}
+use Rattle.converting.proofs.convert.Goals as goal
+use Rattle.converting.proofs.convert.Goals.{After-take}
+
+abbrev edition : (c : goal.After-take) → Edition
+edition c = edition_of c.args.edition
+
+-- the bytes of the file are bytes
+bytes : (c : goal.After-take) → Bytes c.args.file.now
+bytes c i = (c.type_inv.file i).fits
+
+pub finish-requires : goal.finish-requires
+finish-requires c =
+    let taken = c.take.ensures in
+    ends_with (says-taken _ _ _ _ _ taken.4 c.in-Taken.is).1
+
+pub returns-in-Refused : goal.returns-in-Refused
+unfolding convert_answer
+returns-in-Refused c =
+    let file = c.args.file.now in
+    let buffer = c.args.buffer.now in
+    let a = refused-file (edition (goal.at.returns-in-Refused c).After-take) file buffer _ (says-refused _ _ _ _ _ c.take.ensures.4 c.in-Refused.is) in record { answer = a.said; written = a.left; same = subst (WrittenSame (edition (goal.at.returns-in-Refused c).After-take) file (length buffer)) (sym a.left) (written_same (edition (goal.at.returns-in-Refused c).After-take) file (bytes (goal.at.returns-in-Refused c).After-take) buffer) }
+
+pub returns-in-Taken : goal.returns-in-Taken
+returns-in-Taken c =
+    let file = c.args.file.now in
+    let buffer = c.args.buffer.now in
+    let a = c.finish.ensures in record { answer = a.0; written = a.1; same = subst (WrittenSame (edition (goal.at.returns-in-Taken c).After-take) file (length buffer)) (sym a.1) (written_same (edition (goal.at.returns-in-Taken c).After-take) file (bytes (goal.at.returns-in-Taken c).After-take) buffer) }
