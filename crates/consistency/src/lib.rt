@@ -156,12 +156,7 @@ pub fn judge_image(image: &[u8], shown: &mut [u8], out: &mut [u64]) -> u64
 // set exactly if commit c is visible to it, bit 0 never; further rows keep what they had. Or the refusal of `judge_file`; or 21, where there are fewer rows than
 // commits, and then `image` is left as `judge_file` leaves it. Any refusal leaves `rows` as it came. Where there is no room for the words nothing is
 // judged. What holds of the rows, whatever was judged, is `Visibility`.
-pub fn visibility_file(
-    file: &[u8],
-    image: &mut [u8],
-    rows: &mut [u64],
-    out: &mut [u64],
-) -> u64
+pub fn visibility_file(file: &[u8], image: &mut [u8], rows: &mut [u64], out: &mut [u64]) -> u64
     ensures room { length out.old < answer_length
         → (result ≡ no_room) × (out.new ≡ out.old) × (image.new ≡ image.old) × (rows.new ≡ rows.old) }
     ensures answer { answer_length ≤ length out.old
@@ -219,12 +214,7 @@ pub fn push_piece(session: &mut Session, kept: &mut [u8], piece: &[u8]) -> u64
 // Judges what was kept, as `judge_file` does a file, and closes the session; or a refusal with codes 1 to 15; 17, where what came has no room in `kept`; 18,
 // after the close, and nothing is changed. A refusal leaves `image` as it came, and has closed. Where there is no room for the words nothing is done, and
 // the session stays as it was. The answer for a record that has taken some bytes, with a buffer that has room for them, is that of `judge_file` for these bytes.
-pub fn close_session(
-    session: &mut Session,
-    kept: &[u8],
-    image: &mut [u8],
-    out: &mut [u64],
-) -> u64
+pub fn close_session(session: &mut Session, kept: &[u8], image: &mut [u8], out: &mut [u64]) -> u64
     ensures room { length out.old < answer_length
         → (result ≡ no_room) × (out.new ≡ out.old) × (image.new ≡ image.old) × (session.new ≡ session.old) }
     ensures answer { answer_length ≤ length out.old

@@ -1,4 +1,3 @@
 pub mod Placed
 pub mod Taken
 pub mod Judged
-pub mod Clauses
