@@ -11,7 +11,12 @@ fn main(rt: HostRuntime) {
     let mut session = pieces::open();
     // What comes after a file is seen to be too long changes nothing, and is not waited for.
     while session.total <= Store::BYTES {
-        let Input::Whole(n) = streams::read_some(&rt, &mut rt.stdin(), b"standard input", &mut piece) else {
+        let Input::Whole(n) = streams::read_some(
+            &rt,
+            &mut rt.stdin(),
+            b"standard input",
+            &mut piece,
+        ) else {
             return;
         };
         if n == 0 {
