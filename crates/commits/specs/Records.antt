@@ -1,6 +1,6 @@
 -- A commit in a record of the file, and what is given where it is read and made. Assumes nothing.
 use Rattle.std.specs.Prelude.{ℕ, ◌≤◌, ◌≡◌, List, T}
-use Rattle.std.proofs.Math.Option.{Option, none}
+use Rattle.std.proofs.Math.Option.{Option}
 use Rattle.search.specs.Choose.{or_else}
 use Rattle.sets.specs.Set.{Set}
 use Rattle.store.specs.Limits.{max_clients, max_commits}

@@ -1,5 +1,5 @@
 -- A record of either sort in either edition: its bytes, and how many there are. Assumes nothing.
-use Prim.Native.Nat.{ℕ, ◌+◌, ◌*◌, ◌^◌, ◌≤◌, ◌<◌}
+use Prim.Native.Nat.{ℕ, ◌*◌, ◌≤◌, ◌<◌}
 use mathlib.Core.Path.{◌≡◌, refl, sym, ap, ◌∙◌, subst}
 use mathlib.Core.List.{List}
 use native.Mathlib.Omega.{arith}
@@ -8,7 +8,7 @@ use Rattle.search.proofs.Tests.{true-T}
 use Rattle.sets.specs.Set.{Set}
 use Rattle.endian.specs.Endian.{Bytes, put_at}
 use Rattle.store.specs.Limits.{max_clients}
-use Rattle.store.specs.Store.{Client, View, Configuration, Event, shift, commit}
+use Rattle.store.specs.Store.{Client, Configuration, shift, commit}
 use Rattle.trace.specs.Entry.{view_meant, commit_meant, event}
 use Rattle.trace.specs.Format.{operations_at, shift_length, commit_length, short_shift_length, short_commit_length}
 use Rattle.trace.specs.Meaning.{listing_of, entry_of, OperationsFit, ListingFits}

@@ -2,21 +2,21 @@
 use Prim.Native.Nat.{ℕ, ◌+◌, ◌-◌, ◌*◌, ◌≤◌, ◌<◌}
 use mathlib.Core.Path.{◌≡◌, refl, sym, ap, ◌∙◌, subst}
 use mathlib.Core.Logic.{◌≢◌}
-use mathlib.Core.List.{List, [], ◌∷◌, ◌++◌}
+use mathlib.Core.List.{List, [], ◌++◌}
 use native.Mathlib.Omega.{arith}
 use native.Mathlib.Nat.{zero-add}
 use lib.ListN.{length, get_or, replicate, length-append}
 use Rattle.endian.specs.Endian.{Bytes, put_at}
 use Rattle.endian.proofs.Put.{put-none, put_then}
 use Rattle.store.specs.Limits.{max_keys, max_clients, min_bytes}
-use Rattle.store.specs.Store.{Client, View, Configuration, opening, opening_store, Event}
+use Rattle.store.specs.Store.{Client, Configuration, opening, opening_store, Event}
 use Rattle.store.specs.Update.{update, step}
 use Rattle.store.proofs.Updated.{at_same, at_other}
 use Rattle.trace.specs.Result.{taken}
 use Rattle.trace.specs.Entry.{listed_or, view_meant, event}
 use Rattle.trace.specs.Format.{Trace, commits_with, decode}
 use Rattle.trace.specs.Meaning.{listing_of, entry_of, ListingFits, RecordSays, InFormAt, WholeFile}
-use Rattle.trace.specs.Edition.{Edition, record_bytes, records_bytes, encode_in}
+use Rattle.trace.specs.Edition.{Edition, records_bytes, encode_in}
 use Rattle.trace.specs.declared.form.Header.{Header}
 use Rattle.trace.specs.declared.records.Listing.{Listing}
 use Rattle.trace.specs.declared.records.Record.{Record}
@@ -24,7 +24,6 @@ use Rattle.trace.specs.declared.records.Record.TheVariants.{Shift, Commit}
 use Rattle.trace.specs.declared.records.Reading.TheVariants.{Whole}
 use Rattle.trace.proofs.Sizes.{length-file_of}
 use Rattle.state.specs.Places.{client_rows}
-use Rattle.state.specs.Keeps.{RowIs}
 use Rattle.state.specs.Rows.{RowAt}
 use Rattle.state.proofs.Opening.{opening-rows}
 use Rattle.views.specs.Rows.{Kept}

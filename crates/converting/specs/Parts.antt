@@ -1,7 +1,7 @@
 -- The parts of a record, and what is at hand where it is written. Assumes nothing.
-use Rattle.std.specs.Prelude.{ℕ, ◌≤◌, ◌<◌, List}
+use Rattle.std.specs.Prelude.{ℕ, ◌<◌, List}
 use Rattle.store.specs.Limits.{max_clients}
-use Rattle.store.specs.Store.{Client, View, Configuration}
+use Rattle.store.specs.Store.{Client, Configuration}
 use Rattle.trace.specs.Entry.{view_meant}
 use Rattle.trace.specs.Meaning.{listing_of, OperationsFit, ListingFits}
 use Rattle.trace.specs.declared.records.Listing.{Listing}

@@ -1,7 +1,7 @@
 -- A pass over the versions of a key, and over the keys: the writers of the versions that masks hold. Assumes nothing.
 use Prim.Native.Nat.{ℕ, ◌+◌, ◌*◌, ◌<◌}
 use mathlib.Core.Path.{◌≡◌, refl, sym, ap, ◌∙◌, subst}
-use mathlib.Core.Logic.{◌⊎◌, inl, inr, ◌↔◌}
+use mathlib.Core.Logic.{◌⊎◌, inl, inr}
 use mathlib.Core.List.{List}
 use native.Mathlib.Omega.{arith}
 use native.Mathlib.Decide.{ℕ_discrete}
@@ -9,7 +9,6 @@ use lib.Dec.{T}
 use Rattle.sets.specs.Set.{Set, has, insert, union}
 use Rattle.sets.proofs.Laws.{has-none, insert-has, has-insert, insert-self}
 use Rattle.endian.specs.Endian.{le_at}
-use Rattle.store.specs.Store.{CommitNumber}
 use Rattle.store.specs.Reading.{key_place}
 use Rattle.reading.specs.Parts.{writer_at}
 use Rattle.reading.specs.Gains.{versions_in}

@@ -7,25 +7,21 @@ use native.Mathlib.Omega.{arith}
 use native.Mathlib.Decide.{dec_lt}
 use native.Mathlib.Nat.{mul-zero, mul-suc, mul-le-mul_left}
 use native.Mathlib.Numerals.{add-one}
-use lib.Dec.{T, ltb}
+use lib.Dec.{T}
 use lib.ListN.{length, set}
 use lib.Seq.{sets-eq}
-use Rattle.search.proofs.Choose.{choose_yes}
-use Rattle.search.proofs.Tests.{same_test, lt-is}
-use Rattle.sets.specs.Set.{Set, has, single, without}
+use Rattle.search.proofs.Tests.{same_test}
+use Rattle.sets.specs.Set.{Set, has, without}
 use Rattle.sets.proofs.Laws.{single-has, single-only}
 use Rattle.sets.proofs.Algebra.{without_is, same-sets}
-use Rattle.endian.specs.Endian.{le_at, put_at, pieces}
+use Rattle.endian.specs.Endian.{put_at, pieces}
 use Rattle.endian.proofs.Laws.{length-pieces}
 use Rattle.endian.proofs.Put.{put-none, length-put, put-piece}
-use Rattle.store.specs.Store.{Key, CommitNumber, Store, count, version, next_number}
-use Rattle.store.specs.Masks.{view_at}
+use Rattle.store.specs.Store.{Key, CommitNumber, Store}
 use Rattle.store.specs.Reading.{image_keys, image_commits, commit_place, key_place, store_of}
 use Rattle.store.specs.Sound.{SoundStore}
 use Rattle.ordering.specs.Links.{IsCommit}
 use Rattle.ordering.proofs.Shape.{WellFormed, bare-sound}
-use Rattle.reading.specs.Parts.{writer_at}
-use Rattle.reading.specs.Gains.{versions_in}
 use Rattle.reading.proofs.Says.{says-commits, says-count, says-within, within-said, says-writer, says-only, says-view}
 use Rattle.reading.proofs.Shaped.{Shaped, shaped-formed}
 use Rattle.visible.specs.Visible.{visible, row, rows}

@@ -5,7 +5,7 @@ use mathlib.Core.List.{List}
 use lib.ListN.{length}
 use Rattle.endian.specs.Endian.{Bytes}
 use Rattle.store.specs.Image.{image}
-use Rattle.trace.specs.Result.{Result, taken, on_taken}
+use Rattle.trace.specs.Result.{taken}
 use Rattle.trace.specs.Format.{Trace}
 use Rattle.trace.proofs.Decoded.{decoded-well-formed}
 use Rattle.trace.proofs.Result.{taken-injective, on_taken-taken}

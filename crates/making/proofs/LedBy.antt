@@ -1,9 +1,8 @@
 -- What leads to a commit that is given, in the sets that the code finds. Assumes nothing.
 use Prim.Native.Nat.{ℕ, ◌*◌, ◌^◌, ◌<◌}
-use mathlib.Core.Path.{◌≡◌, refl, sym, subst}
-use mathlib.Core.Logic.{◌⊎◌, inl, inr, ◌↔◌, ◌≢◌}
+use mathlib.Core.Path.{sym, subst}
 use mathlib.Core.List.{List}
-use lib.Dec.{T, eqb, eqb→eq, T_not}
+use lib.Dec.{eqb, eqb→eq, T_not}
 use lib.ListN.{get_or}
 use Rattle.search.specs.Choose.{choose}
 use Rattle.search.proofs.Choose.{choose-ind}
@@ -11,8 +10,6 @@ use Rattle.search.proofs.Tests.{eq_test}
 use Rattle.sets.specs.Set.{Set}
 use Rattle.store.specs.Limits.{max_keys, max_clients}
 use Rattle.store.specs.Store.{View, Store, Commit}
-use Rattle.store.specs.History.{history}
-use Rattle.growth.specs.Made.{Made, Operates, CommitBy}
 use Rattle.growth.specs.Links.{FromSession}
 use Rattle.state.specs.Keeps.{IsSet, CommitOf}
 use Rattle.state.proofs.Sets.{is_set-as, is_set-none}

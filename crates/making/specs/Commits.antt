@@ -1,7 +1,7 @@
 -- A commit that is made on the arrays. Assumes nothing.
-use Rattle.std.specs.Prelude.{ℕ, ◌*◌, ◌≤◌, ◌<◌, ◌≡◌, List}
+use Rattle.std.specs.Prelude.{ℕ, ◌≤◌, ◌≡◌, List}
 use Rattle.sets.specs.Set.{Set}
-use Rattle.store.specs.Limits.{max_keys, max_clients, max_commits}
+use Rattle.store.specs.Limits.{max_commits}
 use Rattle.store.specs.Store.{View, Store, next_number, Commit}
 use Rattle.growth.specs.Made.{Made}
 use Rattle.growth.specs.Ordered.{Ordered}

@@ -1,5 +1,5 @@
 -- A version appended in the arrays is appended in the store; and the reads and then the writes of a commit are its update. Assumes nothing.
-use Rattle.std.proofs.Common.{◌≡◌, ℕ, suc, ◌+◌, ◌-◌, ◌*◌, ◌/◌, ◌%◌, ◌^◌, ◌<◌, ◌≤◌, Bool, true, false, T, ◌≢◌, ◌⊎◌, ◌↔◌, List, [], ◌∷◌, ◌++◌, length, get_or, set, sym, refl, ap, ◌∙◌, subst, inl, inr, ⊎_elim, mod-eq_of_lt, arith, length-append, length-set, get_or-set_other, get_or-set_same, pow_pos}
+use Rattle.std.proofs.Common.{◌≡◌, ℕ, suc, ◌+◌, ◌*◌, ◌/◌, ◌%◌, ◌^◌, ◌<◌, ◌≤◌, Bool, true, false, T, ◌≢◌, ◌⊎◌, ◌↔◌, List, [], ◌∷◌, ◌++◌, length, get_or, set, sym, refl, ap, ◌∙◌, subst, inl, inr, ⊎_elim, mod-eq_of_lt, arith, length-append, length-set, get_or-set_other, get_or-set_same, pow_pos}
 use native.Mathlib.Decide.{dec_lt, ℕ_discrete}
 use lib.Bits.{bit_or, or_shifted_r}
 use lib.ListN.{get_or-append}
@@ -10,7 +10,7 @@ use Rattle.sets.specs.Set.{Set, has, single, below, union, highest, lowest}
 use Rattle.sets.proofs.Laws.{has-highest, single-only}
 use Rattle.sets.proofs.Algebra.{insert-below, single-word}
 use Rattle.store.specs.Limits.{max_keys, max_commits}
-use Rattle.store.specs.Store.{Key, VersionNumber, CommitNumber, Value, Version, opening_version, View, Store, count, version, next_number, read, write, Commit}
+use Rattle.store.specs.Store.{Key, VersionNumber, CommitNumber, Value, Version, opening_version, View, Store, count, next_number, read, write, Commit}
 use Rattle.store.specs.Update.{value_of, writes, newest, append, update}
 use Rattle.store.proofs.Updated.{note-length, append-none}
 use Rattle.growth.specs.Links.{FromWrite}

@@ -1,12 +1,12 @@
 -- What one key adds to the commits from which a commit reads, to those that overwrote what it reads, and to those that wrote before it.
 -- Assumes nothing.
-use Rattle.std.proofs.Common.{◌≡◌, ℕ, ◌+◌, ◌*◌, ◌/◌, ◌%◌, ◌^◌, ◌<◌, ◌≤◌, T, ◌↔◌, List, get_or, sym, refl, ap, ◌∙◌, subst, arith}
+use Rattle.std.proofs.Common.{◌≡◌, ℕ, ◌+◌, ◌*◌, ◌/◌, ◌<◌, ◌≤◌, T, ◌↔◌, List, get_or, sym, refl, ap, ◌∙◌, subst, arith}
 use native.Mathlib.Decide.{dec_lt}
 use Rattle.search.proofs.Tests.{both}
 use Rattle.sets.specs.Set.{Set, has, single, below, union, without, lowest}
 use Rattle.sets.proofs.Laws.{has-below, below-has}
 use Rattle.store.specs.Store.{Key, View, Store, version, Commit}
-use Rattle.store.specs.Update.{reads, writes, newest}
+use Rattle.store.specs.Update.{reads, newest}
 use Rattle.store.specs.History.{Wrote}
 use Rattle.growth.specs.Ordered.{Ordered}
 use Rattle.growth.specs.Links.{FromRead, ToLater}

@@ -1,6 +1,6 @@
 -- What the operations of a commit change: in the arrays, at one key; and in the store, first by the reads and then by the writes.
 -- Assumes nothing.
-use Rattle.std.specs.Prelude.{ℕ, ◌+◌, ◌*◌, ◌%◌, ◌^◌, List, set, slice_index, slice_set}
+use Rattle.std.specs.Prelude.{ℕ, ◌+◌, ◌*◌, ◌%◌, ◌^◌, List, slice_index, slice_set}
 use Rattle.sets.specs.Set.{Set, insert, union, highest}
 use Rattle.store.specs.Limits.{max_keys}
 use Rattle.store.specs.Store.{Key, VersionNumber, CommitNumber, View, Store, read, write, Commit}

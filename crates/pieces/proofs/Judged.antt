@@ -2,17 +2,17 @@
 use Prim.Native.Nat.{ℕ, ◌≤◌, ◌<◌}
 use mathlib.Core.Path.{◌≡◌, refl, sym, ap, ◌∙◌, subst}
 use mathlib.Core.Logic.{◌≢◌, ⊎_elim}
-use mathlib.Core.Bool.{Bool, true, false, not}
+use mathlib.Core.Bool.{Bool, true, false}
 use mathlib.Core.List.{List, []}
 use native.Mathlib.Omega.{arith}
-use lib.Dec.{T, leb, le→leb, not_T}
-use lib.ListN.{length, get_or, take, length-take, get_or-eq_default}
+use lib.Dec.{leb}
+use lib.ListN.{length, take, length-take, get_or-eq_default}
 use lib.Seq.{get_or-take}
 use borrow.Author.Tests.{eq-eqb, ne_eqb}
 use Rattle.search.specs.Choose.{need, choose}
 use Rattle.search.proofs.Steps.{tests, need-met, need-unmet}
 use Rattle.endian.specs.Endian.{Bytes, put_at}
-use Rattle.store.specs.Limits.{min_bytes, max_bytes}
+use Rattle.store.specs.Limits.{max_bytes}
 use Rattle.store.specs.Refusal.{Refusal, refuse}
 use Rattle.trace.specs.Result.{Result, refused, taken, on_taken}
 use Rattle.trace.specs.Format.{Trace, decode}
@@ -24,7 +24,7 @@ use Rattle.answer.specs.Recorded.{Recorded}
 use Rattle.answer.proofs.Demand3.{demand3}
 use Rattle.answer.proofs.Recorded.{image-says}
 use Rattle.judging.specs.Answers.{Judged, judged_of, told_answer}
-use Rattle.judging.proofs.Answered.{Answers, refused-answer}
+use Rattle.judging.proofs.Answered.{refused-answer}
 use Rattle.pieces.specs.declared.Session.{Session}
 use Rattle.pieces.specs.Piece.{is_open, opened}
 use Rattle.pieces.specs.Close.{session_file, close_answer, image_of, close_image, RefusalKeepsImage}

@@ -1,13 +1,12 @@
 -- A piece in the buffer: what stands where. Assumes nothing.
 use Prim.Native.Nat.{ℕ, ◌+◌, ◌-◌, ◌<◌, ◌≤◌, min}
-use mathlib.Core.Path.{◌≡◌, refl, sym, ap, ◌∙◌}
+use mathlib.Core.Path.{◌≡◌, sym, ap, ◌∙◌}
 use mathlib.Core.Logic.{◌⊎◌, inl, inr, ⊎_elim}
-use mathlib.Core.List.{List, [], ◌∷◌, ◌++◌, append_assoc}
+use mathlib.Core.List.{List, ◌++◌}
 use native.Mathlib.Omega.{arith}
 use native.Mathlib.Decide.{dec_lt}
 use lib.ListN.{length, get_or, take, drop, length-append, length-take, get_or-append}
-use lib.Seq.{get_or-take, get_or-append-add, length-take-le, take_all, take-take}
-use Rattle.endian.specs.Endian.{put_at}
+use lib.Seq.{get_or-take, get_or-append-add, length-take-le, take_all}
 use Rattle.endian.proofs.Put.{put-none, length-put}
 use Rattle.pieces.specs.Piece.{room_in, placed}
 

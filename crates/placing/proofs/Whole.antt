@@ -25,7 +25,6 @@ use Rattle.ordering.specs.Rows.{links_in}
 use Rattle.ordering.proofs.Lists.{each-once-length}
 use Rattle.ordering.proofs.Placing.{all_placed, none-ready, left_is}
 use Rattle.ordering.proofs.Rings.{ring-found, ring-commits}
-use Rattle.placing.specs.declared.Shown.{Shown}
 use Rattle.placing.specs.declared.Shown.TheVariants.{Order, Ring}
 use Rattle.placing.specs.Answers.{shown_as}
 use Rattle.placing.proofs.Ready.{unplaced-is}

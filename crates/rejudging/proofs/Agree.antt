@@ -4,15 +4,14 @@ use mathlib.Core.Path.{◌≡◌, refl, sym, ap, ◌∙◌}
 use mathlib.Core.List.{List}
 use native.Mathlib.Nat.{le_trans}
 use lib.ListN.{length, replicate, length-replicate}
-use Rattle.endian.specs.Endian.{Bytes}
 use Rattle.store.specs.Limits.{max_image}
 use Rattle.store.specs.Refusal.{Refusal}
 use Rattle.trace.specs.Result.{Result, refused, taken, on_taken}
 use Rattle.trace.specs.Format.{Trace}
 use Rattle.answer.specs.Answer.{accept, report, ImageFits}
-use Rattle.judging.specs.Answers.{Judged, judged_of, told_answer}
+use Rattle.judging.specs.Answers.{judged_of, told_answer}
 use Rattle.judging.proofs.Answered.{refused-answer, judged-answer}
-use Rattle.rejudging.specs.Plain.{plain_answer, RoomForImage, EnginesAgree}
+use Rattle.rejudging.specs.Plain.{plain_answer, EnginesAgree}
 
 module _ (bytes : List ℕ) where
   pub plain-refused : (r : Refusal) → accept bytes ≡ refused r → refused r ≡ plain_answer bytes

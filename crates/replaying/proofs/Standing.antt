@@ -17,7 +17,6 @@ use Rattle.trace.specs.Meaning.{entry_of, RecordSays, InFormAt, WholeFile}
 use Rattle.trace.specs.declared.form.Header.{Header}
 use Rattle.trace.specs.declared.records.Record.{Record}
 use Rattle.trace.specs.declared.records.Reading.TheVariants.{Whole}
-use Rattle.trace.proofs.Result.{taken-injective}
 use Rattle.trace.proofs.Sizes.{events_length, length-events_bytes, length-encode}
 use Rattle.trace.proofs.Decoded.{decoded-well-formed}
 use Rattle.answer.specs.Replay.{replay_step, replay_events, replay_trace, replay}

@@ -1,28 +1,20 @@
 -- What the replay has for a record of a file in form. Assumes nothing.
-use Prim.Native.Nat.{ℕ, ◌+◌, ◌-◌, ◌≤◌, ◌<◌}
-use mathlib.Core.Path.{◌≡◌, refl, sym, ap, ap₂, ◌∙◌, subst}
+use Prim.Native.Nat.{ℕ, ◌+◌}
+use mathlib.Core.Path.{◌≡◌, refl, sym, ap, ap₂, ◌∙◌}
 use mathlib.Core.List.{List, [], ◌∷◌, ◌++◌, append_assoc}
 use native.Mathlib.Omega.{arith}
 use lib.ListN.{length, length-append}
-use Rattle.endian.specs.Endian.{Bytes}
-use Rattle.store.specs.Limits.{max_clients, min_bytes}
-use Rattle.store.specs.Store.{Configuration, opening, Event}
+use Rattle.store.specs.Store.{Configuration, Event}
 use Rattle.store.specs.Update.{step, update, final}
-use Rattle.trace.specs.Result.{taken}
-use Rattle.trace.specs.Entry.{Entry, event, events_of}
-use Rattle.trace.specs.Format.{commits_with, entries_from, trace_of}
+use Rattle.trace.specs.Entry.{event}
+use Rattle.trace.specs.Format.{commits_with}
 use Rattle.trace.specs.Encode.{event_bytes, events_bytes}
-use Rattle.trace.specs.Meaning.{entry_of, reading_of, RecordSays, InFormAt, header_of, WholeFile}
-use Rattle.trace.specs.declared.form.Header.{Header}
+use Rattle.trace.specs.Meaning.{entry_of}
 use Rattle.trace.specs.declared.records.Record.{Record}
 use Rattle.trace.specs.declared.records.Record.TheVariants.{Shift, Commit}
-use Rattle.trace.specs.declared.records.Reading.TheVariants.{Whole}
-use Rattle.trace.proofs.Decoded.{ReadAt, length-operations_at, record-read}
-use Rattle.trace.proofs.InForm.{first-in-form, entries-first, nothing_left}
+use Rattle.trace.proofs.Decoded.{length-operations_at}
 use Rattle.trace.proofs.Sizes.{events_length, length-events_bytes}
 use Rattle.answer.specs.Replay.{replay_step, replay_events}
-use Rattle.run.specs.OneRecord.{Readable}
-use Rattle.run.proofs.OneRecord.{record-readable}
 use Rattle.replaying.specs.Full.{replay_length}
 
 -- ---- what the replay has for a record

@@ -17,7 +17,6 @@ use Rattle.store.specs.Update.{step, first_along}
 use Rattle.store.specs.Refusal.{refuses_event}
 use Rattle.store.specs.Sound.{Sound, WithinKeys}
 use Rattle.store.specs.View.{FitsView}
-use Rattle.trace.specs.Result.{taken}
 use Rattle.trace.specs.Entry.{Entry, shifting, committing, over, commit_meant, event, events_of}
 use Rattle.trace.specs.Format.{Header, commits_with, entries_from}
 use Rattle.trace.specs.Meaning.{why_number, entry_of, reading_of, RecordSays, counted_of, FormSays, AllRecordsSay, RestSays}

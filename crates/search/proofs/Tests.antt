@@ -1,6 +1,6 @@
 -- Tests and the facts that they test: `T b` is the fact that the test b holds, and a test is taken apart by pairs of functions
 -- `T b ↔ A`, which are built as the test is. Assumes nothing.
-use Prim.Native.Nat.{ℕ, zero, suc, ◌≤◌, ◌<◌}
+use Prim.Native.Nat.{ℕ, ◌≤◌, ◌<◌}
 use mathlib.Core.Path.{◌≡◌, refl, sym, subst}
 use mathlib.Core.Bool.{Bool, true, false, ◌&&◌, ◌||◌, not}
 use mathlib.Core.Logic.{◌⊎◌, inl, inr, ◌↔◌}
@@ -8,7 +8,7 @@ use mathlib.Core.Option.{Option, some, none}
 use mathlib.Core.List.{List, [], ◌∷◌}
 use native.Mathlib.Omega.{arith}
 use lib.Dec.{T, eqb, ltb, leb, eqb→eq, eqb_refl, ltb→lt, lt→ltb, leb→le, le→leb, T_not, not_T}
-use Rattle.search.specs.Choose.{choose, is_some, map_some, when, or_else, first_some}
+use Rattle.search.specs.Choose.{is_some, map_some, when, or_else, first_some}
 
 -- a fact is the same fact
 pub same : {A : Type 0} → A ↔ A

@@ -1,6 +1,6 @@
 -- Searches and counts among the numbers below a bound. Assumes nothing.
-use Rattle.std.specs.Prelude.{ℕ, zero, suc, ◌+◌, Bool, true, false, ◌||◌}
-use Rattle.std.proofs.Math.Option.{Option, some, none}
+use Rattle.std.specs.Prelude.{ℕ, zero, suc, ◌+◌, Bool, false, ◌||◌}
+use Rattle.std.proofs.Math.Option.{Option, none}
 use Rattle.search.specs.Choose.{choose, or_else, when}
 
 -- some number below n passes

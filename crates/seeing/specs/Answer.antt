@@ -1,6 +1,6 @@
 -- The whole answer of the call that reports visibility, as one function of the bytes of a trace file and of the lengths of an image buffer and of a table
 -- of rows (02, E14). Assumes nothing.
-use Rattle.std.specs.Prelude.{ℕ, List, length}
+use Rattle.std.specs.Prelude.{ℕ, List}
 use Rattle.sets.specs.Set.{Set}
 use Rattle.trace.specs.Result.{Result, taken, on_taken}
 use Rattle.answer.specs.Output.{Output, answer_in, buffer_after}

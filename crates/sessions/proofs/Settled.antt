@@ -1,17 +1,16 @@
 -- What a commit changes in the sessions and in the log, as the arrays keep them. Assumes nothing.
-use Prim.Native.Nat.{ℕ, zero, suc, ◌+◌, ◌*◌, ◌^◌, ◌≤◌, ◌<◌}
+use Prim.Native.Nat.{ℕ, suc, ◌+◌, ◌*◌, ◌≤◌, ◌<◌}
 use mathlib.Core.Path.{◌≡◌, refl, sym, ap, ◌∙◌, subst}
 use mathlib.Core.Logic.{◌⊎◌, inl, inr, ◌↔◌, ◌≢◌}
 use mathlib.Core.List.{List}
 use native.Mathlib.Omega.{arith}
 use native.Mathlib.Decide.{ℕ_discrete}
-use lib.Dec.{T}
 use lib.ListN.{length, get_or, set, length-set}
 use lib.Seq.{get_or-set_same, get_or-set_other}
-use Rattle.search.proofs.Tests.{both, same}
-use Rattle.sets.specs.Set.{has, insert, union}
-use Rattle.dependencies.specs.History.{History, Stored, SO, session-order, WR, write_read, as-reader}
-use Rattle.store.specs.Limits.{max_keys, max_clients}
+use Rattle.search.proofs.Tests.{both}
+use Rattle.sets.specs.Set.{insert, union}
+use Rattle.dependencies.specs.History.{SO, session-order, WR, write_read, as-reader}
+use Rattle.store.specs.Limits.{max_clients}
 use Rattle.store.specs.Store.{View, Store, next_number, Commit}
 use Rattle.store.specs.Update.{update}
 use Rattle.store.specs.History.{InLog, history}
@@ -21,7 +20,7 @@ use Rattle.growth.specs.Links.{FromSession, FromRead}
 use Rattle.growth.proofs.Links.{SO-after}
 use Rattle.growth.specs.Sessions.{ReadByClient, ReadUpTo}
 use Rattle.growth.proofs.Sessions.{read-by-client-after, read-up-to-after}
-use Rattle.state.specs.Places.{numbers, commits_place, drawn_place, bar_place, log_place, before_place, read_place, packed}
+use Rattle.state.specs.Places.{numbers, drawn_place, bar_place, log_place, packed}
 use Rattle.state.specs.Keeps.{IsSet, CommitOf, KeepsSessions, KeepsCommits}
 use Rattle.state.proofs.Sets.{is_set-as, is_set-union, is_set-insert}
 

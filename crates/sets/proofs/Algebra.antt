@@ -1,6 +1,6 @@
 -- What each operation on sets holds, as equations of tests; sets that hold the same numbers are one number. Assumes nothing.
 use mathlib.Core.Path.{◌≡◌, refl, sym, ap, ◌∙◌, subst}
-use mathlib.Core.Bool.{Bool, true, false, true≢false, false≢true, ◌&&◌, ◌||◌, not}
+use mathlib.Core.Bool.{Bool, true≢false, false≢true, ◌&&◌, ◌||◌, not}
 use mathlib.Core.Logic.{◌↔◌}
 use Prim.Native.Nat.{ℕ, zero, suc, ◌+◌, ◌%◌, ◌^◌, ◌<◌, min, max}
 use native.Mathlib.Nat.{mod-eq_of_lt, one-mul, pow-suc}

@@ -5,7 +5,7 @@ use Prim.Native.Nat.{ℕ, zero, suc, ◌+◌, ◌-◌, ◌*◌, ◌/◌, ◌%◌
 use native.Mathlib.Nat.{div-eq_of_lt, div_self, mul-div_cancel, div-eq_of_lt-le, pow-suc}
 use native.Mathlib.Numerals.{add-one}
 use native.Mathlib.Omega.{arith}
-use native.Mathlib.Decide.{ℕ_discrete, dec_lt, dec_le}
+use native.Mathlib.Decide.{dec_lt, dec_le}
 use lib.Dec.{T, eqb, eqb→eq}
 use lib.Bits.{and_mask}
 use lib.Pow.{mod-pow-add, pow_pos, pow-lt, pow-add, pow_mono, ones_split, ones_lt, high}

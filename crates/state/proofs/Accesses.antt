@@ -1,7 +1,7 @@
 -- Loops over the operations of one access. Assumes nothing.
 use Prim.Native.Nat.{ℕ, zero, suc, ◌+◌, ◌*◌, ◌/◌, ◌%◌, ◌^◌, ◌≤◌, ◌<◌}
 use mathlib.Core.Path.{◌≡◌, refl, sym, ap, ◌∙◌, subst}
-use mathlib.Core.Bool.{Bool, true, false, ◌&&◌, not}
+use mathlib.Core.Bool.{false, ◌&&◌, not}
 use native.Mathlib.Omega.{arith}
 use native.Mathlib.Nat.{add_comm}
 use lib.Dec.{T, eqb, lit<}

@@ -1,28 +1,26 @@
 -- The arrays at the start keep the opening configuration. Assumes nothing.
 use Prim.Native.Nat.{ℕ, zero, suc, ◌+◌, ◌*◌, ◌^◌, ◌≤◌, ◌<◌}
 use mathlib.Core.Path.{◌≡◌, refl, sym, ap, ◌∙◌, subst}
-use mathlib.Core.Logic.{◌⊎◌, inl, inr, ◌↔◌}
+use mathlib.Core.Logic.{inl, inr}
 use mathlib.Core.List.{List, [], ◌∷◌}
 use native.Mathlib.Omega.{arith}
 use native.Mathlib.Decide.{dec_lt}
 use lib.Dec.{T, ltb, lt→ltb, lit<}
 use lib.ListN.{length, get_or, replicate, length-replicate, get_or-replicate, get_or-eq_default}
-use Rattle.search.specs.Choose.{choose}
 use Rattle.search.proofs.Choose.{choose_yes}
 use Rattle.sets.specs.Set.{has, below}
 use Rattle.sets.proofs.Laws.{has-none, has-lt}
-use Rattle.relations.specs.Relation.{ThenMaybe, alone, followed}
-use Rattle.dependencies.specs.History.{History, Stored, PlainLink, by-SO, by-WR, by-WW}
-use Rattle.dependencies.specs.History as D
+use Rattle.relations.specs.Relation.{alone, followed}
+use Rattle.dependencies.specs.History.{PlainLink, by-SO, by-WR, by-WW}
 use Rattle.dependencies.proofs.Opening.{Opening, stored-is-0, no_plain}
 use Rattle.store.specs.Limits.{max_keys, max_clients}
 use Rattle.store.specs.Store.{Version, opening_version, Store, opening_store, opening, count, version, next_number}
-use Rattle.store.specs.History.{Wrote, history, held}
+use Rattle.store.specs.History.{Wrote, history}
 use Rattle.store.proofs.Sound.{opening-first, sound-opening}
 use Rattle.store.proofs.Opening.{opening-history}
 use Rattle.growth.specs.Sessions.{ReadUpTo}
 use Rattle.state.specs.Places.{head_place, readers_place, owned_place, full_place, writers_place, view_place, commits_place, drawn_place, bar_place, before_place, read_place, link_place, lead_place, entered_place, client_rows, versions_length, keys_length, views_length, seen_length, sessions_length, commits_length, links_length}
-use Rattle.state.specs.Keeps.{IsSet, RowIs, KeepsVersions, KeepsKeys, KeepsViews, KeepsSessions, KeepsCommits, KeepsLinks, NotedSince, FollowsLinks, Keeps, WroteKey, CommitOf, FirstLink, Step}
+use Rattle.state.specs.Keeps.{IsSet, RowIs, KeepsVersions, KeepsKeys, KeepsViews, KeepsSessions, KeepsCommits, KeepsLinks, NotedSince, FollowsLinks, Keeps, CommitOf, FirstLink, Step}
 
 -- an array of n words x
 abbrev pub filled : ℕ → ℕ → List ℕ

@@ -3,7 +3,6 @@
 use Rattle.std.specs.Prelude.{ℕ, zero, suc, ◌+◌, ◌*◌, ◌^◌, ◌≤◌, ◌<◌, ◌≡◌, ◌⊎◌, ◌↔◌, List, T, get_or}
 use Rattle.search.specs.Choose.{when}
 use Rattle.sets.specs.Set.{Set, has, below}
-use Rattle.relations.specs.Relation.{ThenMaybe}
 use Rattle.dependencies.specs.History.{Stored, Holds, PrefixStep, SnapshotStep}
 use Rattle.dependencies.specs.History as D
 use Rattle.store.specs.Limits.{max_keys, max_clients}

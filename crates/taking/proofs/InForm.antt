@@ -1,10 +1,9 @@
 -- A file in form: its records start on the opening arrays, and where they were run to their end the trace is taken. Assumes nothing.
 use Prim.Native.Nat.{ℕ, ◌≤◌, zero-le}
-use mathlib.Core.Path.{◌≡◌, sym, ◌∙◌, subst}
+use mathlib.Core.Path.{◌≡◌, ◌∙◌, subst}
 use mathlib.Core.Option.{Option, some}
 use mathlib.Core.List.{List}
 use native.Mathlib.Omega.{arith}
-use lib.ListN.{length}
 use Rattle.endian.specs.Endian.{Bytes}
 use Rattle.store.specs.Limits.{max_commits, min_bytes}
 use Rattle.store.specs.Store.{opening, opening_store, Event}
@@ -22,7 +21,7 @@ use Rattle.trace.proofs.Entries.{length-events_of}
 use Rattle.trace.proofs.InForm.{records-misshapen, records-whole}
 use Rattle.levels.specs.Level.{Level, Failure, first_failure}
 use Rattle.answer.specs.Answer.{accept, verdict}
-use Rattle.state.specs.Places.{versions_length, keys_length, seen_length, sessions_length, commits_length, links_length, values_length}
+use Rattle.state.specs.Places.{seen_length, sessions_length, links_length, values_length}
 use Rattle.state.proofs.Opening.{filled, keeps-opening}
 use Rattle.state.specs.Keeps.{Keeps}
 use Rattle.state.specs.Answers.{refusal_of}
@@ -36,7 +35,7 @@ use Rattle.run.specs.declared.Ran.{Ran}
 use Rattle.run.specs.declared.Ran.TheVariants as Runs
 use Rattle.run.specs.declared.Ran.TheVariants.{Done, Refused}
 use Rattle.taking.specs.Taking.{Opened, Takes}
-use Rattle.taking.proofs.Accepted.{misshapen, accepted, refused-meaning}
+use Rattle.taking.proofs.Accepted.{misshapen, accepted}
 
 -- the trace of a file in form
 abbrev pub trace_in : {s : List ℕ} {h : Header} → WholeFile s h → Trace

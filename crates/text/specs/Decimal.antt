@@ -1,6 +1,6 @@
 -- A number in decimal, as bytes of ASCII. Assumes nothing.
 use Rattle.std.specs.Prelude.{ℕ, zero, suc, ◌+◌, ◌/◌, ◌%◌, ◌≤◌, ◌<◌, ◌≡◌, refl, List, [], ◌∷◌, ◌++◌}
-use Rattle.std.proofs.Common.{sym, ap, ◌∙◌, arith, mod-eq_of_lt}
+use Rattle.std.proofs.Common.{sym, ap, arith, mod-eq_of_lt}
 use Rattle.std.proofs.Math.Nat.{div-eq_of_lt}
 
 -- the byte of a digit

@@ -1,28 +1,25 @@
 -- A file of kinds 2 and 3 is the long file of the trace that it has, byte for byte. Assumes nothing.
-use Prim.Native.Nat.{ℕ, zero, suc, ◌+◌, ◌*◌, ◌/◌, ◌%◌, ◌^◌, ◌≤◌, ◌<◌, zero-le}
-use mathlib.Core.Path.{◌≡◌, refl, sym, ap, ap₂, ◌∙◌, subst}
-use mathlib.Core.Bool.{Bool, true, false, ◌&&◌, ◌||◌, not}
-use mathlib.Core.Logic.{◌⊎◌, inl, inr}
+use Prim.Native.Nat.{ℕ, zero, suc, ◌+◌, ◌*◌, ◌/◌, ◌≤◌, ◌<◌, zero-le}
+use mathlib.Core.Path.{◌≡◌, refl, sym, ap, ◌∙◌, subst}
+use mathlib.Core.Bool.{Bool, true, false, ◌||◌, not}
 use mathlib.Core.List.{List, [], ◌∷◌, ◌++◌}
 use native.Mathlib.Omega.{arith}
-use native.Mathlib.Nat.{add-zero}
-use lib.Dec.{T, eqb, ltb, leb, eqb→eq, leb→le, ltb→lt, lt→ltb}
+use lib.Dec.{T, eqb, ltb, eqb→eq, lt→ltb}
 use lib.ListN.{length, get_or, length-append}
 use lib.Seq.{ext_get_or}
 use mir.Facts.{and_yes}
 use Rattle.search.proofs.Choose.{choose_yes, choose-ind, need-ind}
-use Rattle.search.proofs.Tests.{or_cases}
 use Rattle.endian.specs.Endian.{Bytes, le_at, le_bytes, pieces}
-use Rattle.endian.proofs.Laws.{length-le_bytes, length-pieces, le_at-lt}
-use Rattle.store.specs.Limits.{max_commits, min_bytes}
-use Rattle.store.specs.Store.{View, Configuration, opening, Operation, Event, shift, commit}
+use Rattle.endian.proofs.Laws.{length-le_bytes, length-pieces}
+use Rattle.store.specs.Limits.{min_bytes}
+use Rattle.store.specs.Store.{Configuration, opening, shift}
 use Rattle.store.specs.Update.{step}
 use Rattle.trace.specs.Result.{Result, refused, taken, on_taken}
 use Rattle.trace.specs.Entry.{Entry, listed_or, over, event, events_of}
-use Rattle.trace.specs.Format.{Header, Trace, view_at, operation_at, operations_at, rank_at, operation_fits, operations_fit, Reading, misshapen, whole, shift_length, shift_at, commit_length, commit_read, commit_of, commit_at, record_at, commits_with, on_record, entries_from, header_at, within_limits, trace_of, decode}
-use Rattle.trace.specs.Encode.{operation_bytes, operations_bytes, view_bytes, event_bytes, events_bytes, file_head, file_of, encode}
+use Rattle.trace.specs.Format.{Header, Trace, view_at, operation_at, operations_at, rank_at, operation_fits, operations_fit, Reading, misshapen, whole, shift_at, commit_length, commit_read, commit_of, commit_at, record_at, commits_with, on_record, entries_from, header_at, trace_of, decode}
+use Rattle.trace.specs.Encode.{operation_bytes, operations_bytes, view_bytes, event_bytes, events_bytes, file_head, encode}
 use Rattle.trace.specs.Edition.{long_from, only_long}
-use Rattle.trace.proofs.Sizes.{length-operation_bytes, length-operations_bytes, length-event_bytes, event_length, length-file_head, length-file_of}
+use Rattle.trace.proofs.Sizes.{length-operation_bytes, length-operations_bytes, length-event_bytes, length-file_head, length-file_of}
 use Rattle.trace.proofs.Tests.{operation_fits-is}
 use Rattle.trace.proofs.Entries.{length-events_of}
 use Rattle.trace.proofs.Decoded.{IfTaken, EntriesRead, on_taken-ind, access_number-access_of, length-operations_at, entries-read}

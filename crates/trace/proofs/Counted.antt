@@ -1,24 +1,17 @@
 -- Counts as the code makes them: the keys of operations one after the other, and the masks that are listed key by key. Assumes nothing.
-use Prim.Native.Nat.{ℕ, zero, suc, ◌+◌, ◌-◌, ◌*◌, ◌/◌, ◌^◌, ◌≤◌, ◌<◌}
-use mathlib.Core.Path.{◌≡◌, refl, sym, ap, ◌∙◌}
-use mathlib.Core.Bool.{Bool, true, false}
+use Prim.Native.Nat.{ℕ, zero, suc, ◌+◌, ◌-◌, ◌/◌, ◌^◌, ◌≤◌, ◌<◌}
+use mathlib.Core.Path.{◌≡◌, refl, ap, ◌∙◌}
 use mathlib.Core.Logic.{◌≢◌}
-use mathlib.Core.List.{List, [], ◌∷◌}
+use mathlib.Core.List.{List}
 use native.Mathlib.Omega.{arith}
 use native.Mathlib.Nat.{div-eq_of_lt, div-lt_iff_lt-mul}
 use native.Mathlib.Decide.{dec_lt}
-use native.Mathlib.Numerals.{add-one}
-use lib.Bits.{bit_and}
 use lib.Pow.{pow_pos}
 use borrow.Author.Tests.{eq-eqb, ne_eqb}
-use Rattle.search.specs.Choose.{choose, when}
-use Rattle.search.specs.Search.{how_many}
-use Rattle.sets.specs.Set.{has}
-use Rattle.sets.proofs.Words.{shifted-has}
+use Rattle.search.specs.Choose.{choose}
 use Rattle.endian.specs.Endian.{Bytes, le_at}
 use Rattle.endian.proofs.Laws.{le_at-lt}
-use Rattle.trace.specs.Entry.{listed_or}
-use Rattle.trace.specs.Listed.{listed_at, keys_after, keys_in}
+use Rattle.trace.specs.Listed.{keys_after, keys_in}
 use Rattle.trace.specs.Format.{operations_at}
 
 -- the operations from a place on after one of key j, one by one

@@ -1,11 +1,11 @@
 -- What is read from a file of bytes is well-formed. One lemma for each definition of the format, in its order; each says what holds of
 -- what is read, if something is. Assumes nothing.
 use Prim.Native.Nat.{ℕ, zero, suc, ◌+◌, ◌*◌, ◌^◌, ◌≤◌, ◌<◌, zero-le}
-use mathlib.Core.Path.{◌≡◌, refl, sym, ap, subst}
+use mathlib.Core.Path.{◌≡◌, refl, ap, subst}
 use mathlib.Core.Bool.{Bool, true, false}
 use mathlib.Core.List.{List, [], ◌∷◌}
 use native.Mathlib.Omega.{arith}
-use lib.Dec.{T, ltb, lit<, eqb→eq, ltb→lt, leb→le}
+use lib.Dec.{T, ltb, lit<, ltb→lt, leb→le}
 use lib.ListN.{length}
 use mir.Facts.{and_yes, no_ltb}
 use Rattle.search.specs.Choose.{when}

@@ -1,9 +1,9 @@
 -- A trace that is taken, written in either edition, reads back as that trace. Assumes nothing.
-use Prim.Native.Nat.{ℕ, zero, suc, ◌+◌, ◌-◌, ◌*◌, ◌^◌, ◌≤◌, ◌<◌}
+use Prim.Native.Nat.{ℕ, ◌+◌, ◌*◌, ◌^◌, ◌≤◌, ◌<◌}
 use mathlib.Core.Path.{◌≡◌, refl, sym, ap, ap₂, ◌∙◌, subst, fun_ext}
 use mathlib.Core.Bool.{Bool, true, false, not}
 use mathlib.Core.Logic.{◌≢◌, ◌↔◌}
-use mathlib.Core.Option.{Option, some, none}
+use mathlib.Core.Option.{some}
 use mathlib.Core.List.{List, [], ◌∷◌, ◌++◌}
 use native.Mathlib.Omega.{arith}
 use native.Mathlib.Decide.{ℕ_discrete, dec_lt}
@@ -16,7 +16,7 @@ use Rattle.search.specs.Search.{how_many}
 use Rattle.search.proofs.Choose.{choose_yes, choose_no, need-yes}
 use Rattle.search.proofs.Tests.{true-T, false-T, not_is, eq_is}
 use Rattle.search.proofs.Counting.{how_many-le}
-use Rattle.sets.specs.Set.{Set, has, size}
+use Rattle.sets.specs.Set.{Set, has}
 use Rattle.sets.proofs.Laws.{has-lt}
 use Rattle.sets.proofs.Counting.{has-set_of, set_of-has, set_of-small, size-how_many}
 use Rattle.endian.specs.Endian.{le_at}
@@ -32,8 +32,8 @@ use Rattle.store.proofs.Sound.{sound-opening}
 use Rattle.store.proofs.Run.{LegalRun, done, shifts, commits, sound-shifts, sound-commits}
 use Rattle.trace.specs.Result.{taken}
 use Rattle.trace.specs.Entry.{Listed, Entry, shifting, committing, listed_or, over, event, events_of}
-use Rattle.trace.specs.Listed.{listed_at, listed_bytes, touched, keys_in}
-use Rattle.trace.specs.Format.{Header, Trace, operations_at, whole, short_shift_length, short_shift_of, short_shift_at, short_commit_length, short_commit_of, short_commit_in, short_commit_at, record_at, decode}
+use Rattle.trace.specs.Listed.{listed_at, listed_bytes, touched}
+use Rattle.trace.specs.Format.{Header, Trace, whole, short_shift_length, short_shift_of, short_shift_at, short_commit_length, short_commit_of, short_commit_in, short_commit_at, record_at, decode}
 use Rattle.trace.specs.Encode.{operations_bytes, event_bytes, events_bytes, file_of, encode}
 use Rattle.trace.specs.Edition.{Edition, long, short, changed, short_shift_bytes, short_commit_bytes, record_bytes, records_bytes, encode_in}
 use Rattle.trace.specs.WellFormed.{Rise, FitsShift, FitsCommit}

@@ -7,7 +7,7 @@ use native.Mathlib.Omega.{arith}
 use lib.Dec.{eqb}
 use lib.ListN.{length}
 use Rattle.search.proofs.Choose.{choose-ind}
-use Rattle.store.specs.Store.{Client, Configuration, opening, opening_store, Event, shift, commit}
+use Rattle.store.specs.Store.{Configuration, opening, opening_store, Event, shift, commit}
 use Rattle.store.specs.Update.{step}
 use Rattle.store.specs.View.{FitsView}
 use Rattle.store.specs.Sound.{Sound}
@@ -15,7 +15,7 @@ use Rattle.store.proofs.Sound.{sound-opening}
 use Rattle.store.proofs.Run.{commits_in}
 use Rattle.trace.specs.Entry.{Entry, shifting, committing, every, listed_or, over, event, events_of}
 use Rattle.trace.specs.Format.{commits_with}
-use Rattle.trace.specs.WellFormed.{FitsEvent, ViewsFit, FitsEntry}
+use Rattle.trace.specs.WellFormed.{FitsEvent, ViewsFit}
 
 -- ---- records that list every key
 

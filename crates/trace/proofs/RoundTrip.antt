@@ -1,29 +1,25 @@
 -- A file of records reads back as the trace whose events they mean; so does the file of a well-formed trace that is written in full. One
 -- lemma for each definition of the format; each reads what stands at a place of a file. Assumes nothing.
 use Prim.Native.Nat.{ℕ, suc, ◌+◌, ◌*◌, ◌^◌, ◌≤◌, ◌<◌}
-use mathlib.Core.Path.{◌≡◌, refl, sym, ap, ap₂, ◌∙◌, subst, fun_ext}
+use mathlib.Core.Path.{◌≡◌, refl, sym, ap, ap₂, ◌∙◌, subst}
 use mathlib.Core.List.{List, [], ◌∷◌, map}
 use native.Mathlib.Omega.{arith}
 use native.Mathlib.Nat.{zero-add}
-use native.Mathlib.Decide.{dec_lt}
-use lib.Dec.{T, ltb, lit<, lt→ltb}
-use lib.Arith.{le→nltb}
+use lib.Dec.{T, lit<}
 use lib.ListN.{length, length-append}
 use mathlib.Core.Logic.{◌≢◌}
 use mir.Facts.{yes_and, yes_eqb, yes_leb, yes_ltb, no_eqb}
 use Rattle.search.proofs.Choose.{choose_yes, choose_no, need-yes}
-use Rattle.endian.specs.Endian.{le_at, le_bytes}
-use Rattle.endian.proofs.Laws.{length-le_bytes}
-use Rattle.endian.proofs.Stands.{Stands, stands-whole, stands_at, stands-within, stands-first, stands-second, stands-behind, stands-piece, read-fitting, read_first}
+use Rattle.endian.specs.Endian.{le_at}
+use Rattle.endian.proofs.Stands.{Stands, stands-whole, stands_at, stands-within, stands-first, stands-second, stands-behind, read-fitting, read_first}
 use Rattle.store.specs.Limits.{max_keys, max_clients, max_commits, min_bytes, max_bytes}
 use Rattle.store.specs.Store.{Client, View, Configuration, opening, Access, read, write, Operation, Commit, Event, shift, commit}
 use Rattle.store.specs.Update.{step}
-use Rattle.store.specs.View.{FitsView}
 use Rattle.store.proofs.Run.{commits_in}
 use Rattle.store.proofs.Masks.{view-back}
 use Rattle.trace.specs.Result.{Result, taken, on_taken}
 use Rattle.trace.specs.Entry.{Entry, shifting, committing, every, event, events_of}
-use Rattle.trace.specs.Format.{Header, Trace, view_at, access_of, operation_at, operations_at, rank_at, operation_fits, operations_fit, whole, shift_length, shift_at, commit_length, commit_of, commit_at, record_at, commits_with, on_record, entries_from, header_at, within_limits, trace_of, decode}
+use Rattle.trace.specs.Format.{Header, Trace, access_of, operation_at, operations_at, rank_at, operation_fits, operations_fit, whole, shift_length, shift_at, commit_length, commit_of, commit_at, record_at, commits_with, on_record, entries_from, header_at, within_limits, trace_of, decode}
 use Rattle.trace.specs.Encode.{access_number, operation_bytes, operations_bytes, view_bytes, event_bytes, events_bytes, file_head, file_of, encode}
 use Rattle.trace.proofs.Sizes.{length-operation_bytes, length-operations_bytes, event_length, length-event_bytes, length-file_head, length-file_of}
 use Rattle.trace.proofs.Tests.{operation_fits-is, within_limits-is}

@@ -4,13 +4,12 @@ use mathlib.Core.Path.{◌≡◌, refl, ap, ap₂, ◌∙◌}
 use mathlib.Core.List.{List, [], ◌∷◌}
 use native.Mathlib.Omega.{arith}
 use lib.ListN.{length, length-append}
-use Rattle.endian.specs.Endian.{le_bytes}
-use Rattle.endian.proofs.Laws.{length-le_bytes, length-le_bytes-append, length-pieces}
+use Rattle.endian.proofs.Laws.{length-le_bytes, length-le_bytes-append}
 use Rattle.store.specs.Limits.{min_bytes}
-use Rattle.store.specs.Store.{View, Operation, Event, shift, commit}
+use Rattle.store.specs.Store.{Operation, Event, shift, commit}
 use Rattle.store.proofs.Masks.{length-view_bytes}
 use Rattle.trace.specs.Format.{Trace, shift_length, commit_length}
-use Rattle.trace.specs.Encode.{operation_bytes, operations_bytes, view_bytes, event_bytes, events_bytes, file_head, file_of, encode}
+use Rattle.trace.specs.Encode.{operation_bytes, operations_bytes, event_bytes, events_bytes, file_head, file_of, encode}
 
 pub length-operation_bytes : (o : Operation) → length (operation_bytes o) ≡ 8
 unfolding operation_bytes

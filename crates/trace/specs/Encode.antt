@@ -2,7 +2,7 @@
 use Rattle.std.specs.Prelude.{ℕ, ◌+◌, List, [], ◌∷◌, ◌++◌, length}
 use Rattle.endian.specs.Endian.{le_bytes}
 use Rattle.store.specs.Limits.{min_bytes}
-use Rattle.store.specs.Store.{Access, read, write, Operation, Commit, Event, shift, commit}
+use Rattle.store.specs.Store.{Access, read, write, Operation, Event, shift, commit}
 unfoldable pub use Rattle.store.specs.Masks.{view_bytes}
 use Rattle.trace.specs.Format.{Trace, shift_length, commit_length}
 

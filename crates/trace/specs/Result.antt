@@ -1,5 +1,4 @@
 -- An answer that is a refusal or a value. Assumes nothing.
-use Rattle.std.specs.Prelude.{ℕ}
 use Rattle.store.specs.Refusal.{Refusal}
 
 pub data Result (A : Type 0) : Type 0 where

@@ -9,7 +9,6 @@ use native.Mathlib.Omega.{arith}
 use lib.Dec.{T}
 use lib.Bits.{bit_and}
 use Rattle.search.specs.Choose.{choose}
-use Rattle.search.specs.Search.{any}
 use Rattle.search.proofs.Tests.{same, both, and_is, or_is, eq_is}
 use Rattle.search.proofs.Search.{any-is}
 use Rattle.sets.specs.Set.{Set, has, union}

@@ -2,7 +2,6 @@
 use borrow.Author.Rules.{rules}
 use mathlib.Core.Path.{sym, ap, ◌∙◌}
 use native.Mathlib.Omega.{arith}
-use borrow.Author.Tests.{not-true, not-false}
 use Rattle.search.proofs.Tests.{true-T}
 use Rattle.trace.specs.Result.{refused, taken}
 use Rattle.arranging.proofs.Answered.{misshapen-answer, misshapen-after, short-answer, short-after, shaped-long, few-commits, rows-between, whole-answer, whole-after}

@@ -8,7 +8,6 @@ use Rattle.answer.proofs.Converted.{written_same}
 use Rattle.taking.proofs.Cases.{says-refused, says-taken}
 use Rattle.converting.specs.Answers.{edition_of}
 use Rattle.converting.proofs.Answered.{ends_with, refused-file}
-use borrow.Author.Rules.{rules}
 use Rattle.converting.proofs.convert.Goals as goal
 use Rattle.converting.proofs.convert.Goals.{After-take}
 

@@ -1,5 +1,4 @@
 -- `converting::long` meets its contract. Assumes nothing.
-use borrow.Author.Rules.{rules}
 use Rattle.converting.proofs.long.Goals as goal
 
 pub convert-requires : goal.convert-requires

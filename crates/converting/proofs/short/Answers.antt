@@ -1,5 +1,4 @@
 -- `converting::short` meets its contract. Assumes nothing.
-use borrow.Author.Rules.{rules}
 use Rattle.converting.proofs.short.Goals as goal
 
 pub convert-requires : goal.convert-requires

@@ -1,7 +1,6 @@
 -- `endian::byte_at` meets its contract: an element of a slice of bytes is below 256. Assumes nothing.
 use native.Mathlib.Omega.{arith}
 use Rattle.endian.specs.Endian.{le_at}
-use borrow.Author.Rules.{rules}
 use Rattle.endian.proofs.byte_at.Goals as goal
 
 pub overflow_cast-result : goal.overflow_cast-result

@@ -8,7 +8,6 @@ use native.Mathlib.Numerals.{add-one}
 use lib.ListN.{length-set}
 use lib.Seq.{sets-eq}
 use Rattle.endian.specs.Endian.{le_bytes}
-use borrow.Author.Rules.{rules}
 use Rattle.endian.proofs.put_u16.Goals as goal
 
 pub bounds-d-at-2 : goal.bounds-d-at-2

@@ -4,7 +4,6 @@ use mathlib.Core.Path.{◌∙◌, ap}
 use native.Mathlib.Omega.{arith}
 use Rattle.endian.specs.Endian.{le_bytes, put_at}
 use Rattle.endian.proofs.Put.{put-number}
-use borrow.Author.Rules.{rules}
 use Rattle.endian.proofs.put_u32.Goals as goal
 
 pub returns : goal.returns

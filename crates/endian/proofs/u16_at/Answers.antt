@@ -1,7 +1,6 @@
 -- `endian::u16_at` meets its contract: a number of 2 bytes is two of 1. Assumes nothing.
 use native.Mathlib.Omega.{arith}
 use Rattle.endian.proofs.Laws.{le_at-add}
-use borrow.Author.Rules.{rules}
 use Rattle.endian.proofs.u16_at.Goals as goal
 
 pub returns : goal.returns

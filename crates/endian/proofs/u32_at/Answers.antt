@@ -1,7 +1,6 @@
 -- `endian::u32_at` meets its contract: a number of 4 bytes is two of 2. Assumes nothing.
 use native.Mathlib.Omega.{arith}
 use Rattle.endian.proofs.Laws.{le_at-add}
-use borrow.Author.Rules.{rules}
 use Rattle.endian.proofs.u32_at.Goals as goal
 
 pub returns : goal.returns

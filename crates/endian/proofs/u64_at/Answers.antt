@@ -1,7 +1,6 @@
 -- `endian::u64_at` meets its contract: a number of 8 bytes is two of 4. Assumes nothing.
 use native.Mathlib.Omega.{arith}
 use Rattle.endian.proofs.Laws.{le_at-add}
-use borrow.Author.Rules.{rules}
 use Rattle.endian.proofs.u64_at.Goals as goal
 
 pub returns : goal.returns

@@ -1,11 +1,8 @@
 -- `gathering::writers_held` meets its contract. The loop's invariant: the writers of the versions that were passed and that the mask holds are
 -- found. Assumes nothing.
-use Prim.Native.Nat.{◌-◌, ◌≤◌}
 use mathlib.Core.Path.{sym, ◌∙◌}
 use native.Mathlib.Omega.{arith}
-use borrow.Author.Rules.{rules}
 use Rattle.search.proofs.Tests.{true-T, false-T}
-use Rattle.gathering.specs.Places.{Gathers, WroteHeld}
 use Rattle.gathering.proofs.Held.{held_none, held_more, held-skip, held-done}
 use Rattle.gathering.proofs.writers_held.Goals as goal
 use Rattle.gathering.proofs.writers_held.Goals.{then-has, else-has}

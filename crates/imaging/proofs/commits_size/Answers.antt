@@ -1,7 +1,6 @@
 -- `imaging::commits_size` meets its contract. Assumes nothing.
 use mathlib.Core.Path.{refl}
 use native.Mathlib.Omega.{arith}
-use borrow.Author.Rules.{rules}
 use Rattle.store.proofs.ImageSizes.{commits-most}
 use Rattle.imaging.proofs.commits_size.Goals as goal
 

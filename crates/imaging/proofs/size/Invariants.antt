@@ -1,13 +1,9 @@
 -- `imaging::size` meets its contract. The loop's invariant: the sum is the size of the first 8 bytes, the commits and the keys passed. Assumes nothing.
 use Prim.Native.Nat.{◌+◌, ◌*◌, ◌-◌, ◌≤◌}
-use mathlib.Core.Path.{◌≡◌, ap, ◌∙◌}
-use native.Mathlib.Omega.{arith}
-use native.Mathlib.Numerals.{add-one}
-use borrow.Author.Rules.{rules}
+use mathlib.Core.Path.{◌≡◌}
 use Rattle.store.specs.Limits.{max_keys, max_commits, per_key}
 use Rattle.store.specs.Reading.{commit_size}
 use Rattle.imaging.specs.Parts.{keys_size}
-use Rattle.imaging.proofs.Sizes.{keys_size-suc, length_whole}
 use Rattle.imaging.proofs.size.Given as goal
 
 abbrev pub invariant-loop-k : goal.invariant-loop-k

@@ -2,7 +2,6 @@
 use Prim.Native.Nat.{ℕ, ◌+◌}
 use mathlib.Core.Path.{ap, ◌∙◌}
 use native.Mathlib.Omega.{arith}
-use borrow.Author.Rules.{rules}
 use Rattle.endian.specs.Endian.{put_at, pieces}
 use Rattle.store.specs.Image.{key_bytes}
 use Rattle.imaging.proofs.Sizes.{length_whole}

@@ -1,10 +1,9 @@
 -- `imaging::write_commit` meets its contract: the word of a commit, and its row of masks behind it. Assumes nothing.
 use Prim.Native.Nat.{ℕ, ◌+◌, ◌*◌}
-use mathlib.Core.Path.{◌≡◌, refl, sym, ap, ◌∙◌, subst}
+use mathlib.Core.Path.{refl, sym, ap, ◌∙◌, subst}
 use mathlib.Core.List.{List, ◌++◌}
 use native.Mathlib.Omega.{arith}
 use lib.ListN.{get_or}
-use borrow.Author.Rules.{rules}
 use Rattle.endian.specs.Endian.{le_bytes, put_at}
 use Rattle.endian.proofs.Laws.{length-le_bytes}
 use Rattle.endian.proofs.Put.{put_next}

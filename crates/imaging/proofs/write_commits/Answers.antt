@@ -6,14 +6,11 @@ use native.Mathlib.Omega.{arith}
 use native.Mathlib.Numerals.{add-one}
 use native.Mathlib.Nat.{mul-zero}
 use lib.ListN.{length, take, drop}
-use borrow.Author.Rules.{rules}
 use Rattle.endian.specs.Endian.{put_at, pieces}
 use Rattle.endian.proofs.Put.{put-none, put-lent}
-use Rattle.store.specs.Store.{Store}
-use Rattle.store.specs.Image.{commit_bytes, ClientsFit}
+use Rattle.store.specs.Image.{commit_bytes}
 use Rattle.store.specs.Reading.{commit_size}
 use Rattle.store.proofs.ImageSizes.{length-commit, length-commits}
-use Rattle.state.specs.Keeps.{KeepsCommits, KeepsStored}
 use Rattle.imaging.proofs.Sizes.{commits-suc, commit-within}
 use Rattle.imaging.proofs.write_commits.Goals as goal
 use Rattle.imaging.proofs.write_commits.Goals.{In-loop-i}

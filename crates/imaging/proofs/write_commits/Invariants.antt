@@ -1,20 +1,13 @@
 -- `imaging::write_commits` meets its contract. The loop's invariant: the commits passed stand behind the first 8 bytes, and the next one's offset is their end.
 -- Assumes nothing.
-use Prim.Native.Nat.{ℕ, suc, ◌+◌, ◌*◌, ◌-◌, ◌≤◌}
-use mathlib.Core.Path.{◌≡◌, refl, ap, ◌∙◌}
-use native.Mathlib.Omega.{arith}
-use native.Mathlib.Numerals.{add-one}
-use native.Mathlib.Nat.{mul-zero}
-use lib.ListN.{length, take, drop}
-use borrow.Author.Rules.{rules}
+use Prim.Native.Nat.{suc, ◌+◌, ◌*◌, ◌-◌, ◌≤◌}
+use mathlib.Core.Path.{◌≡◌}
+use lib.ListN.{length}
 use Rattle.endian.specs.Endian.{put_at, pieces}
-use Rattle.endian.proofs.Put.{put-none, put-lent}
 use Rattle.store.specs.Store.{Store}
 use Rattle.store.specs.Image.{commit_bytes, ClientsFit}
 use Rattle.store.specs.Reading.{commit_size}
-use Rattle.store.proofs.ImageSizes.{length-commit, length-commits}
 use Rattle.state.specs.Keeps.{KeepsCommits, KeepsStored}
-use Rattle.imaging.proofs.Sizes.{commits-suc, commit-within}
 use Rattle.imaging.proofs.write_commits.Given as goal
 
 abbrev pub invariant-loop-i : goal.invariant-loop-i

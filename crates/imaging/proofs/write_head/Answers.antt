@@ -1,6 +1,5 @@
 -- `imaging::write_head` meets its contract: the first 8 bytes are put as three numbers. Assumes nothing.
 use native.Mathlib.Omega.{arith}
-use borrow.Author.Rules.{rules}
 use Rattle.imaging.proofs.Whole.{put-head}
 use Rattle.imaging.proofs.write_head.Goals as goal
 

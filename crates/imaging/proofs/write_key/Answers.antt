@@ -1,19 +1,15 @@
 -- `imaging::write_key` meets its contract. The loop's invariant: the versions passed stand behind the key's first 4 bytes. Assumes nothing.
-use Prim.Native.Nat.{ℕ, ◌+◌, ◌*◌, ◌-◌, ◌≤◌}
+use Prim.Native.Nat.{ℕ, ◌+◌, ◌*◌}
 use mathlib.Core.Path.{◌≡◌, refl, sym, ap, ◌∙◌}
 use mathlib.Core.List.{List, ◌++◌}
 use native.Mathlib.Omega.{arith}
-use lib.ListN.{length, get_or}
-use borrow.Author.Rules.{rules}
+use lib.ListN.{get_or}
 use Rattle.endian.specs.Endian.{le_bytes, put_at, pieces}
 use Rattle.endian.proofs.Laws.{length-le_bytes}
 use Rattle.endian.proofs.Put.{put-none, put_next, put-piece}
-use Rattle.store.specs.Limits.{max_commits}
-use Rattle.store.specs.Store.{Store, count, version}
+use Rattle.store.specs.Store.{version}
 use Rattle.store.specs.Image.{version_bytes, key_bytes}
-use Rattle.store.specs.Sound.{SoundStore}
 use Rattle.state.specs.Places.{head_place, readers_place}
-use Rattle.state.specs.Keeps.{KeepsVersions}
 use Rattle.imaging.proofs.Words.{version-kept}
 use Rattle.store.proofs.ImageSizes.{length-versions}
 use Rattle.imaging.proofs.write_key.Goals as goal

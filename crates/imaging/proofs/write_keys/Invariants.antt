@@ -1,22 +1,14 @@
 -- `imaging::write_keys` meets its contract. The loop's invariant: the keys passed stand from `start` on, and the next one's offset is their end. Assumes nothing.
-use Prim.Native.Nat.{◌+◌, ◌*◌, ◌-◌, ◌≤◌, ◌<◌}
-use mathlib.Core.Path.{◌≡◌, refl, sym, ap, ◌∙◌}
-use native.Mathlib.Omega.{arith}
-use native.Mathlib.Numerals.{add-one}
-use lib.ListN.{length, get_or}
-use borrow.Author.Rules.{rules}
-use Rattle.sets.specs.Set.{size}
+use Prim.Native.Nat.{◌+◌, ◌-◌, ◌≤◌}
+use mathlib.Core.Path.{◌≡◌}
+use lib.ListN.{length}
 use Rattle.endian.specs.Endian.{put_at, pieces}
-use Rattle.endian.proofs.Put.{put-none, put-lent}
 use Rattle.store.specs.Limits.{max_commits}
-use Rattle.store.specs.Store.{Store, count}
+use Rattle.store.specs.Store.{Store}
 use Rattle.store.specs.Image.{key_bytes}
 use Rattle.store.specs.Sound.{SoundStore}
-use Rattle.store.proofs.ImageSizes.{length-key}
 use Rattle.state.specs.Keeps.{KeepsVersions, KeepsKeys}
 use Rattle.imaging.specs.Parts.{keys_size}
-use Rattle.sets.proofs.Counting.{full-count}
-use Rattle.imaging.proofs.Sizes.{keys_size-suc, key-within, length-keys}
 use Rattle.imaging.proofs.write_keys.Given as goal
 
 abbrev pub invariant-loop-k : goal.invariant-loop-k

@@ -5,7 +5,6 @@ use Rattle.answer.proofs.Recorded.{image-says}
 use Rattle.taking.proofs.Cases.{says-refused, says-taken}
 use Rattle.judging.proofs.Answered.{refused-answer}
 use Rattle.judging.proofs.Longest.{image-fits}
-use borrow.Author.Rules.{rules}
 use Rattle.judging.proofs.judge.Goals as goal
 use Rattle.judging.proofs.judge.Goals.{After-take_file}
 

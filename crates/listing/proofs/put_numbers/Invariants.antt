@@ -1,12 +1,9 @@
 -- `listing::put_numbers` meets its contract: after i turns the first i numbers stand in the buffer. Assumes nothing.
-use borrow.Author.Rules.{rules}
 use Prim.Native.Nat.{◌+◌, ◌-◌, ◌*◌, ◌≤◌}
 use mathlib.Core.Path.{◌≡◌}
-use native.Mathlib.Omega.{arith}
 use lib.ListN.{length, take}
 use Rattle.text.specs.Put.{Put}
 use Rattle.listing.specs.Line.{numbers_text, longest_number}
-use Rattle.listing.proofs.Lines.{put-no-number, put-next-number, put-all-numbers}
 use Rattle.listing.proofs.put_numbers.Given as goal
 
 abbrev pub invariant-loop-i : goal.invariant-loop-i

@@ -1,7 +1,6 @@
 -- `making::before_of` meets its contract. Assumes nothing.
 use mathlib.Core.Path.{refl}
 use Rattle.search.proofs.Steps.{tests, choose-first, choose-second}
-use borrow.Author.Rules.{rules}
 use Rattle.making.proofs.before_of.Goals as goal
 
 pub returns-then-ranks-eq0 : goal.returns-then-ranks-eq0

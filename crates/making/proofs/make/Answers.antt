@@ -1,7 +1,6 @@
 -- `making::make` meets its contract: what each part promises, joined. Assumes nothing.
 use Prim.Native.Nat.{ℕ}
 use mathlib.Core.Path.{sym, ap, subst}
-use borrow.Author.Rules.{rules}
 use Rattle.search.proofs.Tests.{some-none}
 use Rattle.store.specs.Store.{View, Store, Commit}
 use Rattle.growth.specs.Links.{FromSession}

@@ -1,14 +1,13 @@
 -- `operations::append` meets its contract. The keys passed have their new versions, the others are as before, and the set is that of the keys passed. Assumes nothing.
-use Rattle.std.proofs.Common.{ℕ, ◌+◌, ◌/◌, ◌<◌, ◌≤◌, ap, arith, rules}
+use Rattle.std.proofs.Common.{ℕ, ◌≤◌}
 use Rattle.store.specs.Store.{Store, Commit}
 use Rattle.state.specs.Room.{VersionsRoom, KeysRoom}
 use Rattle.state.specs.Keeps.{IsSet}
 use Rattle.state.specs.Accesses.{Left}
-use Rattle.state.proofs.Accesses.{left-rest, turn_below}
-use Rattle.state.proofs.Below.{From, from-none}
+use Rattle.state.proofs.Below.{From}
 use Rattle.operations.specs.Given.{Appending}
 use Rattle.operations.specs.PerKey.{WrittenAt}
-use Rattle.operations.proofs.Appended.{WritesPassed, no_writes, earlier-turn, write-appended, all-earlier, writes-appended}
+use Rattle.operations.proofs.Appended.{WritesPassed}
 use Rattle.operations.proofs.append.Given as goal
 
 abbrev pub invariant-loop-left : goal.invariant-loop-left

@@ -1,5 +1,4 @@
 -- `operations::append_at` meets its contract. Assumes nothing.
-use Rattle.std.proofs.Common.{◌∙◌, rules}
 use Rattle.operations.proofs.append_at.Goals as goal
 
 pub returns : goal.returns

@@ -1,5 +1,5 @@
 -- `operations::grow_key` meets its contract. Assumes nothing.
-use Rattle.std.proofs.Common.{arith, length-set, rules}
+use Rattle.std.proofs.Common.{arith, length-set}
 use Rattle.operations.proofs.grow_key.Goals as goal
 
 pub bounds-keys-i-4 : goal.bounds-keys-i-4

@@ -1,5 +1,5 @@
 -- `operations::note_read` meets its contract. Assumes nothing.
-use Rattle.std.proofs.Common.{refl, rules}
+use Rattle.std.proofs.Common.{refl}
 use Rattle.operations.proofs.note_read.Goals as goal
 
 pub returns : goal.returns

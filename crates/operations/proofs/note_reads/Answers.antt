@@ -1,20 +1,13 @@
 -- `operations::note_reads` meets its contract. The keys passed are not read wrongly and have their reads noted, the others are as before, and the sets are those of the keys
 -- passed. Assumes nothing.
-use Rattle.std.proofs.Common.{ℕ, ◌+◌, ◌/◌, ◌<◌, ◌≤◌, T, ap, ◌∙◌, arith, rules}
-use Rattle.store.specs.Store.{Key, View, Store, Commit}
+use Rattle.std.proofs.Common.{ℕ, ◌+◌, ◌/◌, ◌<◌, ap, ◌∙◌, arith, rules}
 use Rattle.store.specs.Update.{Visible}
-use Rattle.store.specs.Refusal.{wrong_at}
-use Rattle.growth.specs.Ordered.{Ordered}
-use Rattle.state.specs.Room.{VersionsRoom}
-use Rattle.state.specs.Keeps.{IsSet, KeepsKeys}
-use Rattle.state.specs.Accesses.{Left}
 use Rattle.state.proofs.Accesses.{next-key, left-rest, left-none, turn_below}
-use Rattle.state.proofs.Below.{From, from-none}
-use Rattle.operations.specs.Given.{Given}
+use Rattle.state.proofs.Below.{from-none}
 use Rattle.operations.specs.PerKey.{ReadAt, LaterAt}
 use Rattle.operations.proofs.Reading.{wrong-skip, wrong-one, wrong-means, wrong-found, wrong-none}
 use Rattle.operations.proofs.PerKey.{source-read, later-read, reads-turn, all-sources, all-later}
-use Rattle.operations.proofs.Noted.{ReadsPassed, no_reads, read-noted, seen-left, reads-noted}
+use Rattle.operations.proofs.Noted.{no_reads, read-noted, seen-left, reads-noted}
 use Rattle.operations.proofs.note_reads.Goals as goal
 use Rattle.operations.proofs.note_reads.Goals.{After-lowest-k}
 

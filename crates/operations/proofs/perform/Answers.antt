@@ -1,5 +1,5 @@
 -- `operations::perform` meets its contract. What the reads leave, the writes complete. Assumes nothing.
-use Rattle.std.proofs.Common.{subst, rules}
+use Rattle.std.proofs.Common.{subst}
 use Rattle.operations.specs.Change.{reads_noted}
 use Rattle.operations.specs.Answers.{ReadsSay}
 use Rattle.operations.proofs.Appended.{reads-then-writes, same-earlier, performed}

@@ -1,5 +1,5 @@
 -- `operations::put_version` meets its contract. Assumes nothing.
-use Rattle.std.proofs.Common.{arith, length-set, rules}
+use Rattle.std.proofs.Common.{arith, length-set}
 use Rattle.operations.proofs.put_version.Goals as goal
 
 pub bounds-versions-at-2 : goal.bounds-versions-at-2

@@ -3,7 +3,6 @@ use mathlib.Core.Path.{◌∙◌}
 use native.Mathlib.Omega.{arith}
 use lib.ListN.{length-set}
 use Rattle.state.specs.Places.{note_place}
-use borrow.Author.Rules.{rules}
 use Rattle.paths.proofs.Added.{added, notes-stay}
 use Rattle.paths.proofs.Kept.{links-added}
 use Rattle.paths.proofs.add.Goals as goal

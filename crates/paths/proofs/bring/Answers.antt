@@ -1,13 +1,10 @@
 -- `paths::bring` meets its contract. The loop's invariant: the keys below some k that are read have gained the sets, and those from k on are
 -- left. Assumes nothing.
-use Prim.Native.Nat.{ℕ, ◌+◌, ◌/◌, ◌≤◌, ◌<◌}
+use Prim.Native.Nat.{ℕ, ◌+◌, ◌/◌, ◌<◌}
 use mathlib.Core.Path.{ap}
 use native.Mathlib.Omega.{arith}
 use lib.ListN.{length-set}
-use borrow.Author.Rules.{rules}
-use Rattle.state.specs.Accesses.{Left}
 use Rattle.state.proofs.Accesses.{turn_below, next-key, left-rest, left-none}
-use Rattle.paths.specs.Added.{Joined, LeadsOf}
 use Rattle.paths.proofs.Joined.{joined-none, leads-none, leads-turn, leads-passed}
 use Rattle.paths.proofs.bring.Goals as goal
 

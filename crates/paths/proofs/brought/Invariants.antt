@@ -1,14 +1,9 @@
 -- `paths::brought` meets its contract. The loop's invariant: what the keys below some k bring along is gathered, and the keys from k on that
 -- are written are left. Assumes nothing.
-use Prim.Native.Nat.{ℕ, ◌+◌, ◌/◌, ◌≤◌, ◌<◌}
-use mathlib.Core.Path.{ap}
-use native.Mathlib.Omega.{arith}
-use borrow.Author.Rules.{rules}
+use Prim.Native.Nat.{ℕ, ◌≤◌}
 use Rattle.state.specs.Accesses.{Left}
 use Rattle.state.specs.Keeps.{IsSet}
-use Rattle.state.proofs.Accesses.{turn_below, next-key, left-rest, left-none}
 use Rattle.paths.specs.Added.{BroughtBelow}
-use Rattle.paths.proofs.Joined.{brought-none, brought-turn, brought-passed}
 use Rattle.paths.proofs.brought.Given as goal
 
 abbrev pub invariant-loop-left : goal.invariant-loop-left

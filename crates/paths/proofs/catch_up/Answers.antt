@@ -3,9 +3,6 @@
 use Prim.Native.Nat.{◌-◌}
 use mathlib.Core.Path.{◌≡◌, refl, ◌∙◌}
 use native.Mathlib.Omega.{arith}
-use lib.ListN.{length}
-use Rattle.store.specs.Store.{Store}
-use Rattle.state.specs.Keeps.{EnteredTo, FollowsLinks}
 use borrow.Author.Rules.{rules}
 use Rattle.paths.proofs.Noted.{entered-more, entered_all}
 use Rattle.paths.proofs.catch_up.Goals as goal

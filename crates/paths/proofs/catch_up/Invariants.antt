@@ -1,13 +1,10 @@
 -- `paths::catch_up` meets its contract. The loop's invariant: the links are entered up to the last commit, for every store that the array follows. What is left to
 -- enter is the measure. Assumes nothing.
 use Prim.Native.Nat.{◌-◌}
-use mathlib.Core.Path.{◌≡◌, refl, ◌∙◌}
-use native.Mathlib.Omega.{arith}
+use mathlib.Core.Path.{◌≡◌}
 use lib.ListN.{length}
 use Rattle.store.specs.Store.{Store}
 use Rattle.state.specs.Keeps.{EnteredTo, FollowsLinks}
-use borrow.Author.Rules.{rules}
-use Rattle.paths.proofs.Noted.{entered-more, entered_all}
 use Rattle.paths.proofs.catch_up.Given as goal
 
 abbrev pub invariant-loop-last : goal.invariant-loop-last

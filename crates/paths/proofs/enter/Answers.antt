@@ -3,7 +3,6 @@ use Prim.Native.Nat.{ℕ, ◌+◌, ◌*◌}
 use native.Mathlib.Omega.{arith}
 use Rattle.growth.specs.Links.{FromSession, FromRead, FromWrite, ToLater}
 use Rattle.state.specs.Keeps.{IsSet, KeepsOperations}
-use borrow.Author.Rules.{rules}
 use Rattle.paths.proofs.Noted.{part_at}
 use Rattle.paths.proofs.enter.Goals as goal
 

@@ -1,5 +1,4 @@
 -- `paths::leading` meets its contract: both walks, from the rows of the set. Assumes nothing.
-use borrow.Author.Rules.{rules}
 use Rattle.paths.proofs.leading.Goals as goal
 
 pub returns : goal.returns

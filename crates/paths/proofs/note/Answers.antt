@@ -1,7 +1,6 @@
 -- `paths::note` meets its contract. Assumes nothing.
 use native.Mathlib.Omega.{arith}
 use lib.ListN.{length-set}
-use borrow.Author.Rules.{rules}
 use Rattle.paths.proofs.Noted.{follows-noted}
 use Rattle.paths.proofs.note.Goals as goal
 

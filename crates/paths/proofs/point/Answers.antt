@@ -1,13 +1,8 @@
 -- `paths::point` meets its contract. The loop's invariant: the rows of the members that are not left have gained the sets. What is left is
 -- the measure, as a number. Assumes nothing.
-use Prim.Native.Nat.{ℕ, ◌^◌, ◌<◌}
 use native.Mathlib.Omega.{arith}
-use lib.Dec.{T}
 use lib.ListN.{length-set}
-use borrow.Author.Rules.{rules}
-use Rattle.sets.specs.Set.{has}
-use Rattle.paths.specs.Added.{Joined}
-use Rattle.paths.proofs.Joined.{RowsTaken, joined-none, joined_as, rows_none, rows_all, rows-turn}
+use Rattle.paths.proofs.Joined.{joined-none, joined_as, rows_none, rows_all, rows-turn}
 use Rattle.paths.proofs.point.Goals as goal
 
 pub loop-left-init : goal.loop-left-init

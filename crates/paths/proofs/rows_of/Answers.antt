@@ -1,5 +1,4 @@
 -- `paths::rows_of` meets its contract: the rows of the run, and those of the others. Assumes nothing.
-use borrow.Author.Rules.{rules}
 use mathlib.Core.Path.{ap, ◌∙◌}
 use Rattle.sets.specs.Set.{without}
 use Rattle.store.specs.Limits.{numbers}

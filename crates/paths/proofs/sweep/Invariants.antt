@@ -1,13 +1,9 @@
 -- `paths::sweep` meets its contract. The loop's invariant: the rows below t are gathered. Assumes nothing.
-use borrow.Author.Rules.{rules}
 use Prim.Native.Nat.{◌-◌, ◌≤◌}
-use mathlib.Core.Path.{◌≡◌, refl}
-use native.Mathlib.Omega.{arith}
 use Rattle.sets.specs.Set.{below}
 use Rattle.store.specs.Limits.{numbers}
 use Rattle.state.specs.Keeps.{IsSet}
 use Rattle.state.specs.Rows.{InRows}
-use Rattle.paths.proofs.Swept.{sweep-starts, sweep-on}
 use Rattle.paths.proofs.sweep.Given as goal
 
 abbrev pub invariant-loop-t : goal.invariant-loop-t

@@ -1,15 +1,9 @@
 -- `paths::walk` meets its contract. The loop's invariant: the walk so far, of each store that the array keeps, and that no number is both taken
 -- and to be taken. The measure: the numbers taken, as a word, make a larger number at each round. Assumes nothing.
-use borrow.Author.Rules.{rules}
-use Prim.Native.Nat.{ℕ, ◌-◌, ◌*◌, ◌^◌, ◌<◌}
+use Prim.Native.Nat.{◌*◌}
 use native.Mathlib.Omega.{arith}
-use lib.Dec.{T}
-use Rattle.sets.specs.Set.{has}
 use Rattle.store.specs.Limits.{numbers}
-use Rattle.store.specs.Store.{Store}
-use Rattle.state.specs.Keeps.{IsSet, Step, KeepsLinks}
-use Rattle.state.specs.Rows.{InRows}
-use Rattle.paths.proofs.Walked.{Walked, walk_first, walk_turn, walk_ends, more-done, still-apart}
+use Rattle.paths.proofs.Walked.{walk_first, walk_turn, walk_ends, more-done, still-apart}
 use Rattle.paths.proofs.walk.Goals as goal
 
 pub loop-left-init : goal.loop-left-init

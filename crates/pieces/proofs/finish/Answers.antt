@@ -1,7 +1,6 @@
 -- `pieces::finish` meets its contract. Assumes nothing.
 use Rattle.endian.specs.Endian.{Bytes}
 use Rattle.pieces.proofs.Judged.{judges-joined, refusal-keeps-image}
-use borrow.Author.Rules.{rules}
 use Rattle.pieces.proofs.finish.Goals as goal
 
 pub returns : goal.returns

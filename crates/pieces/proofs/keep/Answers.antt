@@ -7,7 +7,6 @@ use lib.Seq.{length-take-le}
 use Rattle.endian.specs.Endian.{put_at}
 use Rattle.pieces.specs.Piece.{room_in}
 use Rattle.pieces.proofs.Placed.{take-lesser, placed-none}
-use borrow.Author.Rules.{rules}
 use Rattle.pieces.proofs.keep.Goals as goal
 
 pub returns-then-room-at : goal.returns-then-room-at

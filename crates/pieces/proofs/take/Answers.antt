@@ -2,9 +2,7 @@
 use Prim.Native.Nat.{ℕ}
 use mathlib.Core.Path.{refl, ap}
 use Rattle.search.proofs.Steps.{tests, need-met, need-unmet}
-use Rattle.pieces.specs.declared.Session.{Session}
 use Rattle.pieces.specs.Piece.{piece_code, counted, kept_after}
-use borrow.Author.Rules.{rules}
 use Rattle.pieces.proofs.take.Goals as goal
 
 pub returns-then-was-ne0 : goal.returns-then-was-ne0

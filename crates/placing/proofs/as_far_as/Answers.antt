@@ -1,9 +1,6 @@
 -- `placing::as_far_as` meets its contract. Assumes nothing.
-use borrow.Author.Rules.{rules}
-use Prim.Native.Nat.{◌-◌, ◌≤◌}
 use native.Mathlib.Omega.{arith}
-use lib.ListN.{length}
-use Rattle.placing.proofs.Way.{NotYet, not-yet-next, far-found, far_none}
+use Rattle.placing.proofs.Way.{not-yet-next, far-found, far_none}
 use Rattle.placing.proofs.as_far_as.Goals as goal
 
 pub loop-to-init : goal.loop-to-init

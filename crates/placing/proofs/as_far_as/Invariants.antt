@@ -1,9 +1,7 @@
 -- `placing::as_far_as` meets its contract. Assumes nothing.
-use borrow.Author.Rules.{rules}
 use Prim.Native.Nat.{◌-◌, ◌≤◌}
-use native.Mathlib.Omega.{arith}
 use lib.ListN.{length}
-use Rattle.placing.proofs.Way.{NotYet, not-yet-next, far-found, far_none}
+use Rattle.placing.proofs.Way.{NotYet}
 use Rattle.placing.proofs.as_far_as.Given as goal
 
 abbrev pub invariant-loop-to : goal.invariant-loop-to

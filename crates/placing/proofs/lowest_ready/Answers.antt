@@ -1,8 +1,7 @@
 -- `placing::lowest_ready` meets its contract. Assumes nothing.
 use borrow.Author.Rules.{rules}
-use Prim.Native.Nat.{◌^◌, ◌<◌}
 use native.Mathlib.Omega.{arith}
-use Rattle.placing.proofs.Ready.{Left, left-start, left-none, left-found, left-next}
+use Rattle.placing.proofs.Ready.{left-start, left-none, left-found, left-next}
 use Rattle.placing.proofs.lowest_ready.Goals as goal
 
 pub loop-left-init : goal.loop-left-init

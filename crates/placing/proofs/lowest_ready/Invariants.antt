@@ -1,8 +1,6 @@
 -- `placing::lowest_ready` meets its contract. Assumes nothing.
-use borrow.Author.Rules.{rules}
 use Prim.Native.Nat.{◌^◌, ◌<◌}
-use native.Mathlib.Omega.{arith}
-use Rattle.placing.proofs.Ready.{Left, left-start, left-none, left-found, left-next}
+use Rattle.placing.proofs.Ready.{Left}
 use Rattle.placing.proofs.lowest_ready.Given as goal
 
 abbrev pub invariant-loop-left : goal.invariant-loop-left

@@ -1,11 +1,7 @@
 -- `placing::place` meets its contract. Assumes nothing.
 use borrow.Author.Rules.{rules}
-use Prim.Native.Nat.{◌-◌, ◌≤◌}
-use mathlib.Core.Path.{◌≡◌}
 use native.Mathlib.Omega.{arith}
-use lib.ListN.{length}
-use Rattle.ordering.specs.Rows.{links_in}
-use Rattle.placing.proofs.Listing.{Listed, listed_start, listed_next, listed-stop, listed-full}
+use Rattle.placing.proofs.Listing.{listed_start, listed_next, listed-stop, listed-full}
 use Rattle.placing.proofs.place.Goals as goal
 
 pub loop-i-init : goal.loop-i-init

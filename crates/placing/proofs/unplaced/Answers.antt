@@ -1,8 +1,5 @@
 -- `placing::unplaced` meets its contract. Assumes nothing.
-use borrow.Author.Rules.{rules}
-use mathlib.Core.Path.{◌≡◌, ap, ◌∙◌}
 use native.Mathlib.Numerals.{add-one}
-use Rattle.sets.specs.Set.{below, without}
 use Rattle.placing.proofs.unplaced.Goals as goal
 
 pub returns : goal.returns

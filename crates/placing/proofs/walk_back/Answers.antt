@@ -2,7 +2,7 @@
 use borrow.Author.Rules.{rules}
 use mathlib.Core.Path.{sym, ◌∙◌}
 use native.Mathlib.Omega.{arith}
-use Rattle.placing.proofs.Way.{Walked, walk_start, walk-all, walk-found, walk-next}
+use Rattle.placing.proofs.Way.{walk_start, walk-all, walk-found, walk-next}
 use Rattle.placing.proofs.walk_back.Goals as goal
 
 pub loop-left-init : goal.loop-left-init

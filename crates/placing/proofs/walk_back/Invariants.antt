@@ -1,8 +1,5 @@
 -- `placing::walk_back` meets its contract. Assumes nothing.
-use borrow.Author.Rules.{rules}
-use mathlib.Core.Path.{sym, ◌∙◌}
-use native.Mathlib.Omega.{arith}
-use Rattle.placing.proofs.Way.{Walked, walk_start, walk-all, walk-found, walk-next}
+use Rattle.placing.proofs.Way.{Walked}
 use Rattle.placing.proofs.walk_back.Given as goal
 
 abbrev pub invariant-loop-left : goal.invariant-loop-left

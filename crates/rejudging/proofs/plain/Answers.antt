@@ -4,7 +4,6 @@ use Rattle.answer.specs.Answer.{final_store}
 use Rattle.taking.proofs.Cases.{says-refused, says-taken}
 use Rattle.judging.proofs.Answered.{told-report}
 use Rattle.rejudging.proofs.Agree.{plain-refused, plain-taken, engines-agree}
-use borrow.Author.Rules.{rules}
 use Rattle.rejudging.proofs.plain.Goals as goal
 use Rattle.rejudging.proofs.plain.Goals.{After-keys-in-Taken-1}
 

@@ -1,7 +1,6 @@
 -- `rejudging::trial` meets its contract: both engines answer what the definitions do. Assumes nothing.
 use mathlib.Core.Path.{sym, ◌∙◌}
 use Rattle.rejudging.proofs.Agree.{longest-agrees}
-use borrow.Author.Rules.{rules}
 use Rattle.rejudging.proofs.trial.Goals as goal
 
 pub returns : goal.returns

@@ -6,7 +6,6 @@ use Rattle.answer.specs.Written.{replay_answer, ReadsBack}
 use Rattle.answer.proofs.Written.{reads-back, replay-fits}
 use Rattle.taking.proofs.Cases.{says-refused, says-taken}
 use Rattle.replaying.proofs.Answered.{ends_with, refused-replay}
-use borrow.Author.Rules.{rules}
 use Rattle.replaying.proofs.write.Goals as goal
 use Rattle.replaying.proofs.write.Goals.{After-take}
 

@@ -1,19 +1,12 @@
 -- `run::run_all` meets its contract: before each record the run stands, with its arrays, where the records so far leave it. Assumes nothing.
-use borrow.Author.Rules.{rules}
-use Prim.Native.Nat.{◌+◌, ◌-◌, ◌<◌}
-use mathlib.Core.Path.{◌≡◌, ap, ◌∙◌}
+use Prim.Native.Nat.{◌+◌}
+use mathlib.Core.Path.{◌≡◌}
 use mathlib.Core.List.{List}
-use native.Mathlib.Omega.{arith}
-use Rattle.endian.specs.Endian.{Bytes}
 use Rattle.trace.specs.Entry.{Entry}
-use Rattle.trace.specs.Meaning.{refusal_number}
-use Rattle.trace.specs.declared.records.Reading.TheVariants.{Whole}
-use Rattle.trace.proofs.Pass.{CountedSays}
 use Rattle.state.specs.Room.{Room, ValuesRoom, FreshRoom}
 use Rattle.verdicts.specs.Verdicts.{VerdictsRoom}
 use Rattle.run.specs.Ran.{Starts}
-use Rattle.run.proofs.OneRecord.{record-readable}
-use Rattle.run.proofs.Runs.{InTurn, turn-starts, as_read, as-sorted, turn-stops, turn-goes, turn-ends, turn-over, turn-rest, stopped-form, stopped-meaning, Stands, run-starts, run-reads, run-goes, run-stops, run_ends}
+use Rattle.run.proofs.Runs.{InTurn, Stands}
 use Rattle.run.proofs.run_all.Given as goal
 
 abbrev pub invariant-loop-left : goal.invariant-loop-left

@@ -1,9 +1,7 @@
 -- `seeing::report` meets its contract: nothing is asked of the bytes of a file. Assumes nothing.
-use Prim.Native.Nat.{ℕ, ◌≤◌}
 use mathlib.Core.Path.{◌≡◌, refl, sym, ap, ◌∙◌}
 use native.Mathlib.Omega.{arith}
 use lib.ListN.{length, take, length-take}
-use borrow.Author.Rules.{rules}
 use Rattle.endian.specs.Endian.{Bytes}
 use Rattle.store.specs.Image.{image}
 use Rattle.trace.specs.Result.{refused, taken}

@@ -3,7 +3,6 @@ use mathlib.Core.Path.{sym, ap}
 use Prim.Native.Nat.{ℕ, ◌-◌}
 use native.Mathlib.Omega.{arith}
 use lib.Pow.{pow_pos}
-use borrow.Author.Rules.{rules}
 use Rattle.sets.specs.Set.{below}
 use Rattle.sets.proofs.Words.{one_shifted}
 use Rattle.sets.proofs.below.Goals as goal

@@ -1,5 +1,4 @@
 -- `sets::has` meets its contract. Assumes nothing.
-use borrow.Author.Rules.{rules}
 use Rattle.sets.proofs.Words.{shifted-has}
 use Rattle.sets.proofs.has.Goals as goal
 

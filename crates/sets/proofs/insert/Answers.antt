@@ -1,5 +1,4 @@
 -- `sets::insert` meets its contract. Assumes nothing.
-use borrow.Author.Rules.{rules}
 use Rattle.sets.proofs.insert.Goals as goal
 
 pub returns : goal.returns

@@ -1,5 +1,4 @@
 -- `sets::single` meets its contract. Assumes nothing.
-use borrow.Author.Rules.{rules}
 use Rattle.sets.proofs.Words.{one_shifted}
 use Rattle.sets.proofs.single.Goals as goal
 

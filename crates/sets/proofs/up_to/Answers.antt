@@ -2,7 +2,6 @@
 use mathlib.Core.Path.{sym, ap, ◌∙◌}
 use native.Mathlib.Omega.{arith}
 use native.Mathlib.Numerals.{add-one}
-use borrow.Author.Rules.{rules}
 use lib.Pow.{pow_pos}
 use Rattle.sets.specs.Set.{below}
 use Rattle.sets.proofs.Algebra.{insert-below}

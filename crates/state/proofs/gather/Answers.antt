@@ -1,9 +1,6 @@
 -- `state::gather` meets its contract. The loop's invariant: what is gathered, with what is in the rows that are left, is all. Assumes nothing.
-use Prim.Native.Nat.{◌+◌, ◌^◌, ◌≤◌, ◌<◌}
-use lib.ListN.{length}
 use borrow.Author.Rules.{rules}
-use Rattle.state.specs.Places.{numbers}
-use Rattle.state.proofs.Gathering.{Gathering, gathering-starts, gathering-on, gathering-ends}
+use Rattle.state.proofs.Gathering.{gathering-starts, gathering-on, gathering-ends}
 use Rattle.state.proofs.gather.Goals as goal
 
 pub loop-left-init : goal.loop-left-init

@@ -1,9 +1,8 @@
 -- `state::gather` meets its contract. The loop's invariant: what is gathered, with what is in the rows that are left, is all. Assumes nothing.
 use Prim.Native.Nat.{◌+◌, ◌^◌, ◌≤◌, ◌<◌}
 use lib.ListN.{length}
-use borrow.Author.Rules.{rules}
 use Rattle.state.specs.Places.{numbers}
-use Rattle.state.proofs.Gathering.{Gathering, gathering-starts, gathering-on, gathering-ends}
+use Rattle.state.proofs.Gathering.{Gathering}
 use Rattle.state.proofs.gather.Given as goal
 
 abbrev pub invariant-loop-left : goal.invariant-loop-left

@@ -1,9 +1,8 @@
 -- `state::gather_two` meets its contract: the loop of `gather`, for two parts of the array. Assumes nothing.
-use borrow.Author.Rules.{rules}
 use Prim.Native.Nat.{◌+◌, ◌^◌, ◌≤◌, ◌<◌}
 use lib.ListN.{length}
 use Rattle.state.specs.Places.{numbers}
-use Rattle.state.proofs.Gathering.{Gathering, gathering-starts, gathering-on, gathering-ends}
+use Rattle.state.proofs.Gathering.{Gathering}
 use Rattle.state.proofs.gather_two.Given as goal
 
 abbrev pub invariant-loop-left : goal.invariant-loop-left

@@ -1,5 +1,4 @@
 -- `state::keys_with` meets its contract. Assumes nothing.
-use borrow.Author.Rules.{rules}
 use Rattle.state.proofs.Accesses.{left-starts}
 use Rattle.state.proofs.keys_with.Goals as goal
 

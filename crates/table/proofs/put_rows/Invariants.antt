@@ -1,12 +1,9 @@
 -- `table::put_rows` meets its contract: after i turns the first i rows stand in the buffer. Assumes nothing.
 use Prim.Native.Nat.{◌-◌, ◌*◌, ◌≤◌}
 use mathlib.Core.Path.{◌≡◌}
-use native.Mathlib.Omega.{arith}
 use lib.ListN.{length, take}
-use borrow.Author.Rules.{rules}
 use Rattle.text.specs.Put.{Put}
 use Rattle.table.specs.Table.{table_text, longest_row}
-use Rattle.table.proofs.Lines.{put-no-row, put-next-row, put-all-rows}
 use Rattle.table.proofs.put_rows.Given as goal
 
 abbrev pub invariant-loop-i : goal.invariant-loop-i

@@ -3,7 +3,6 @@ use mathlib.Core.Path.{sym, ap, ◌∙◌}
 use Rattle.trace.specs.Result.{refused}
 use Rattle.taking.specs.Taking.{TakingSays}
 use Rattle.taking.proofs.InForm.{headed-of, misshapen-of}
-use borrow.Author.Rules.{rules}
 use Rattle.taking.proofs.take_file.Goals as goal
 
 pub take_records-requires : goal.take_records-requires

@@ -14,7 +14,6 @@ use Rattle.run.specs.Ran.{Starts}
 use Rattle.taking.specs.Taking.{TakingSays}
 use Rattle.taking.proofs.Accepted.{refused-meaning}
 use Rattle.taking.proofs.InForm.{trace_in, opens, starts, takes, ran-misshapen, whole-refused, whole-done, ran-done, ran-refused}
-use borrow.Author.Rules.{rules}
 use Rattle.taking.proofs.take_records.Goals as goal
 use Rattle.taking.proofs.take_records.Goals.{After-opening-s}
 

@@ -1,10 +1,7 @@
 -- `text::put_bytes` meets its contract: after i turns the first i bytes stand in the buffer. Assumes nothing.
 use borrow.Author.Rules.{rules}
-use Prim.Native.Nat.{◌-◌, ◌≤◌}
-use mathlib.Core.Path.{◌≡◌}
 use native.Mathlib.Omega.{arith}
-use lib.ListN.{length}
-use lib.Seq.{paste, paste-zero}
+use lib.Seq.{paste-zero}
 use Rattle.text.proofs.Put.{put-next-byte, put_all}
 use Rattle.text.proofs.put_bytes.Goals as goal
 

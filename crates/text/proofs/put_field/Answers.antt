@@ -2,7 +2,6 @@
 use native.Mathlib.Omega.{arith}
 use Rattle.text.proofs.Digits.{length-word}
 use Rattle.text.proofs.Put.{put_both}
-use borrow.Author.Rules.{rules}
 use Rattle.text.proofs.put_field.Goals as goal
 
 pub put_decimal-requires : goal.put_decimal-requires

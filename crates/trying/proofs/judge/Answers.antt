@@ -1,5 +1,4 @@
 -- `trying::judge` meets its contract. Assumes nothing.
-use borrow.Author.Rules.{rules}
 use Rattle.trying.proofs.Handed.{handed}
 use Rattle.trying.proofs.judge.Goals as goal
 

@@ -1,7 +1,6 @@
 -- `trying::wanted` meets its contract. Assumes nothing.
 use mathlib.Core.Logic.{inl}
 use native.Mathlib.Omega.{arith}
-use borrow.Author.Rules.{rules}
 use Rattle.views.specs.Rules.{StoreAndView}
 use Rattle.verdicts.proofs.Asked.{every-clause}
 use Rattle.trying.proofs.Kept.{holds_kept, written-kept, lacking-kept, told_below, before-kept, read_kept, prefix-kept, snapshot-kept}

@@ -3,7 +3,6 @@ use mathlib.Core.Path.{refl, sym, ap}
 use Rattle.judging.specs.Answers.{answer_of}
 use Rattle.words.specs.Layout.{judged_words}
 use Rattle.words.proofs.PutWords.{judged-put, told-words}
-use borrow.Author.Rules.{rules}
 use Rattle.words.proofs.put_answer.Goals as goal
 
 pub returns-in-Refused : goal.returns-in-Refused

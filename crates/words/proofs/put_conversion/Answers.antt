@@ -3,7 +3,6 @@ use mathlib.Core.Path.{sym, ap}
 use mathlib.Core.List.{[], ◌∷◌}
 use Rattle.converting.specs.Answers.{conversion_of}
 use Rattle.words.proofs.PutWords.{told-words}
-use borrow.Author.Rules.{rules}
 use Rattle.words.proofs.put_conversion.Goals as goal
 
 pub returns-in-Refused : goal.returns-in-Refused

@@ -1,5 +1,4 @@
 -- `words::put_count` meets its contract: two stores in a row put two words. Assumes nothing.
-use borrow.Author.Rules.{rules}
 use mathlib.Core.Path.{refl}
 use mathlib.Core.List.{[], ◌∷◌}
 use native.Mathlib.Omega.{arith}

@@ -5,7 +5,6 @@ use lib.ListN.{length-set}
 use lib.Seq.{sets-eq}
 use Rattle.state.specs.Answers.{refusal_of}
 use Rattle.words.specs.Layout.{refusal_words}
-use borrow.Author.Rules.{rules}
 use Rattle.words.proofs.put_refusal.Goals as goal
 
 pub bounds-out-1 : goal.bounds-out-1

@@ -6,7 +6,6 @@ use lib.ListN.{length-set}
 use lib.Seq.{sets-eq}
 use Rattle.replaying.specs.Answers.{replay_of}
 use Rattle.words.proofs.PutWords.{told-words}
-use borrow.Author.Rules.{rules}
 use Rattle.words.proofs.put_replay.Goals as goal
 
 pub bounds-out-1 : goal.bounds-out-1

@@ -1,5 +1,4 @@
 -- `words::put_shown` meets its contract, in each of its three answers. Assumes nothing.
-use borrow.Author.Rules.{rules}
 use mathlib.Core.Path.{sym, ap, ◌∙◌}
 use Rattle.trace.specs.Result.{taken}
 use Rattle.arranging.specs.Answers.{arrangement_of}

@@ -1,11 +1,9 @@
 -- `writing::copy_operations` meets its contract. The loop's invariant: the operations passed stand from `at` on, as numbers of eight bytes.
 -- Assumes nothing.
-use Prim.Native.Nat.{ℕ, ◌+◌, ◌*◌, ◌-◌, ◌≤◌}
+use Prim.Native.Nat.{ℕ, ◌+◌, ◌*◌}
 use mathlib.Core.Path.{◌≡◌, refl, ap, ◌∙◌}
 use mathlib.Core.List.{List}
 use native.Mathlib.Omega.{arith}
-use lib.ListN.{length}
-use borrow.Author.Rules.{rules}
 use Rattle.endian.specs.Endian.{le_bytes, put_at, pieces}
 use Rattle.endian.proofs.Laws.{length-le_bytes, length-pieces}
 use Rattle.endian.proofs.Put.{put-none, put-piece}

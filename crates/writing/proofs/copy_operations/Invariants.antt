@@ -1,15 +1,10 @@
 -- `writing::copy_operations` meets its contract. The loop's invariant: the operations passed stand from `at` on, as numbers of eight bytes.
 -- Assumes nothing.
-use Prim.Native.Nat.{ℕ, ◌+◌, ◌*◌, ◌-◌, ◌≤◌}
-use mathlib.Core.Path.{◌≡◌, refl, ap, ◌∙◌}
-use mathlib.Core.List.{List}
-use native.Mathlib.Omega.{arith}
+use Prim.Native.Nat.{◌+◌, ◌*◌, ◌-◌, ◌≤◌}
+use mathlib.Core.Path.{◌≡◌}
 use lib.ListN.{length}
-use borrow.Author.Rules.{rules}
-use Rattle.endian.specs.Endian.{le_bytes, put_at, pieces}
-use Rattle.endian.proofs.Laws.{length-le_bytes, length-pieces}
-use Rattle.endian.proofs.Put.{put-none, put-piece}
-use Rattle.writing.proofs.Operations.{word_at, operations-words}
+use Rattle.endian.specs.Endian.{put_at, pieces}
+use Rattle.writing.proofs.Operations.{word_at}
 use Rattle.writing.proofs.copy_operations.Given as goal
 
 abbrev pub invariant-loop-i : goal.invariant-loop-i

@@ -3,7 +3,6 @@
 use Prim.Native.Nat.{◌*◌, ◌≤◌}
 use mathlib.Core.Path.{refl}
 use native.Mathlib.Omega.{arith}
-use borrow.Author.Rules.{rules}
 use Rattle.trace.specs.Format.{operations_at}
 use Rattle.trace.proofs.Decoded.{length-operations_at}
 use Rattle.writing.proofs.Operations.{operations-few}

@@ -1,7 +1,6 @@
 -- `writing::put_head` meets its contract: the length, the first six bytes of the record of kind 1 and the number of records, put one behind
 -- the other. Assumes nothing.
 use native.Mathlib.Omega.{arith}
-use borrow.Author.Rules.{rules}
 use Rattle.writing.proofs.Records.{put-head}
 use Rattle.writing.proofs.put_head.Goals as goal
 

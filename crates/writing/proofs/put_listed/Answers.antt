@@ -1,9 +1,7 @@
 -- `writing::put_listed` meets its contract. The loop's invariant: the masks of the keys passed stand from `at` on. Assumes nothing.
-use Prim.Native.Nat.{◌^◌, ◌<◌}
 use mathlib.Core.Path.{refl}
 use native.Mathlib.Omega.{arith}
-use Rattle.writing.proofs.Listing.{PutListed, listed-none, listed-key, listed-room, listed-one, listed-all}
-use borrow.Author.Rules.{rules}
+use Rattle.writing.proofs.Listing.{listed-none, listed-key, listed-room, listed-one, listed-all}
 use Rattle.writing.proofs.put_listed.Goals as goal
 
 pub loop-left-init : goal.loop-left-init

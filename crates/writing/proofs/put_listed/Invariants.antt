@@ -1,9 +1,6 @@
 -- `writing::put_listed` meets its contract. The loop's invariant: the masks of the keys passed stand from `at` on. Assumes nothing.
 use Prim.Native.Nat.{◌^◌, ◌<◌}
-use mathlib.Core.Path.{refl}
-use native.Mathlib.Omega.{arith}
-use Rattle.writing.proofs.Listing.{PutListed, listed-none, listed-key, listed-room, listed-one, listed-all}
-use borrow.Author.Rules.{rules}
+use Rattle.writing.proofs.Listing.{PutListed}
 use Rattle.writing.proofs.put_listed.Given as goal
 
 abbrev pub invariant-loop-left : goal.invariant-loop-left

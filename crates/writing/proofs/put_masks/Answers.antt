@@ -1,15 +1,11 @@
 -- `writing::put_masks` meets its contract. The loop's invariant: the masks passed stand from `at` on. Assumes nothing.
-use Prim.Native.Nat.{◌*◌, ◌-◌, ◌≤◌}
+use Prim.Native.Nat.{◌*◌}
 use mathlib.Core.Path.{◌≡◌, refl, ap, ◌∙◌}
 use native.Mathlib.Omega.{arith}
-use lib.ListN.{length}
-use borrow.Author.Rules.{rules}
 use Rattle.endian.specs.Endian.{le_bytes, put_at, pieces}
 use Rattle.endian.proofs.Put.{put-none, put-piece}
-use Rattle.store.specs.Store.{View}
 use Rattle.trace.specs.Encode.{view_bytes}
 use Rattle.store.proofs.Masks.{length-view_bytes}
-use Rattle.state.specs.Rows.{RowAt}
 use Rattle.writing.proofs.put_masks.Goals as goal
 
 pub loop-k-init : goal.loop-k-init

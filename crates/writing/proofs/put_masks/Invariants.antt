@@ -1,14 +1,10 @@
 -- `writing::put_masks` meets its contract. The loop's invariant: the masks passed stand from `at` on. Assumes nothing.
-use Prim.Native.Nat.{◌*◌, ◌-◌, ◌≤◌}
-use mathlib.Core.Path.{◌≡◌, refl, ap, ◌∙◌}
-use native.Mathlib.Omega.{arith}
+use Prim.Native.Nat.{◌-◌, ◌≤◌}
+use mathlib.Core.Path.{◌≡◌}
 use lib.ListN.{length}
-use borrow.Author.Rules.{rules}
-use Rattle.endian.specs.Endian.{le_bytes, put_at, pieces}
-use Rattle.endian.proofs.Put.{put-none, put-piece}
+use Rattle.endian.specs.Endian.{put_at}
 use Rattle.store.specs.Store.{View}
 use Rattle.trace.specs.Encode.{view_bytes}
-use Rattle.store.proofs.Masks.{length-view_bytes}
 use Rattle.state.specs.Rows.{RowAt}
 use Rattle.writing.proofs.put_masks.Given as goal
 

@@ -1,7 +1,6 @@
 -- `writing::put_shift` meets its contract: the first six bytes and the masks, put one behind the other, are a record of kind 2. Assumes nothing.
 use mathlib.Core.Path.{refl}
 use native.Mathlib.Omega.{arith}
-use borrow.Author.Rules.{rules}
 use Rattle.writing.proofs.Records.{put-shift}
 use Rattle.writing.proofs.put_shift.Goals as goal
 

@@ -16,7 +16,6 @@ use Rattle.trace.proofs.Listed.{touched-key}
 use Rattle.trace.proofs.Touched.{touched-size}
 use Rattle.writing.proofs.Operations.{operations-few}
 use Rattle.writing.proofs.Records.{put-short-commit}
-use borrow.Author.Rules.{rules}
 use Rattle.writing.proofs.put_short_commit.Goals as goal
 use Rattle.writing.proofs.put_short_commit.Goals.{After-touched_keys-listed}
 

@@ -5,7 +5,6 @@ use native.Mathlib.Omega.{arith}
 use lib.Pow.{pow_mono}
 use Rattle.sets.proofs.Laws.{has-lt}
 use Rattle.writing.proofs.Records.{put-short-shift}
-use borrow.Author.Rules.{rules}
 use Rattle.writing.proofs.put_short_shift.Goals as goal
 use Rattle.writing.proofs.put_short_shift.Goals.{Start}
 

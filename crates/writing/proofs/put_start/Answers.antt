@@ -1,6 +1,5 @@
 -- `writing::put_start` meets its contract: the first six bytes of a record are put as three numbers. Assumes nothing.
 use native.Mathlib.Omega.{arith}
-use borrow.Author.Rules.{rules}
 use Rattle.writing.proofs.Records.{put-start}
 use Rattle.writing.proofs.put_start.Goals as goal
 

@@ -1,5 +1,4 @@
 -- `commits::engines::judge_by` meets its contract. Assumes nothing.
-use borrow.Author.Rules.{rules}
 use Rattle.commits.proofs.engines.judge_by.Goals as goal
 
 pub returns-in-Fast : goal.returns-in-Fast

@@ -1,5 +1,4 @@
 -- `commits::engines::wanted_by` meets its contract. Assumes nothing.
-use borrow.Author.Rules.{rules}
 use Rattle.commits.proofs.engines.wanted_by.Goals as goal
 
 pub returns-in-Fast : goal.returns-in-Fast

@@ -1,5 +1,4 @@
 -- `commits::late::own_number` meets its contract. Assumes nothing.
-use borrow.Author.Rules.{rules}
 use Rattle.commits.proofs.OwnOnly.{number-none, number-alone}
 use Rattle.commits.proofs.late.own_number.Goals as goal
 

@@ -11,7 +11,6 @@ use Rattle.shifts.specs.Outcomes.{SightSays}
 use Rattle.commits.specs.Codes.{LateGiven}
 use Rattle.commits.proofs.Cases.{late-bad, late-stray, late-none, late-masks}
 use Rattle.commits.proofs.OwnOnly.{own-not-refused, own-seen}
-use borrow.Author.Rules.{rules}
 use Rattle.commits.proofs.late.sight_after.Goals as goal
 use Rattle.commits.proofs.late.sight_after.Goals.{After-sight, After-stray}
 

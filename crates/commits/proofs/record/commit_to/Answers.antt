@@ -6,7 +6,6 @@ use Rattle.commits.specs.Records.{commit_in}
 use Rattle.commits.proofs.Begun.{operations-read}
 use Rattle.commits.proofs.Cases.{old-is}
 use Rattle.commits.proofs.Turns.{refused-old}
-use borrow.Author.Rules.{rules}
 use Rattle.commits.proofs.record.commit_to.Goals as goal
 
 pub returns-then-session-sessions : goal.returns-then-session-sessions

@@ -12,7 +12,6 @@ use Rattle.shifts.proofs.Refused.{not_taken}
 use Rattle.commits.specs.Records.{Ready}
 use Rattle.commits.proofs.Completed.{plain-is, before-commit, commit-given, late-given, judge-given, kept-after}
 use Rattle.commits.proofs.Turns.{refused-read, answered-late}
-use borrow.Author.Rules.{rules}
 use Rattle.commits.proofs.record.complete.Goals as goal
 use Rattle.commits.proofs.record.complete.Goals.{After-make-wrong}
 

@@ -6,7 +6,6 @@ use Rattle.store.specs.Limits.{max_keys}
 use Rattle.commits.specs.Records.{commit_in}
 use Rattle.shifts.proofs.Refused.{masks-filled}
 use Rattle.commits.proofs.Begun.{row_kept}
-use borrow.Author.Rules.{rules}
 use Rattle.commits.proofs.record.view_after.Goals as goal
 
 pub returns : goal.returns

@@ -3,7 +3,6 @@ use mathlib.Core.Path.{sym, ap, ◌∙◌}
 use lib.ListN.{length}
 use Rattle.converting.specs.Answers.{edition_of}
 use Rattle.converting.proofs.EitherEdition.{bytes_of}
-use borrow.Author.Rules.{rules}
 use Rattle.converting.proofs.kinds.length_in.Goals as goal
 
 pub long_length-requires : goal.long_length-requires

@@ -2,7 +2,6 @@
 use mathlib.Core.Path.{sym}
 use native.Mathlib.Omega.{arith}
 use Rattle.converting.proofs.EitherEdition.{commit-few, long-shift-length, long-commit-length}
-use borrow.Author.Rules.{rules}
 use Rattle.converting.proofs.kinds.long_length.Goals as goal
 
 pub overflow_mul-result-in-Commit : goal.overflow_mul-result-in-Commit

@@ -5,7 +5,6 @@ use lib.ListN.{length}
 use Rattle.endian.specs.Endian.{put_at}
 use Rattle.converting.specs.Answers.{edition_of}
 use Rattle.converting.proofs.EitherEdition.{bytes_of}
-use borrow.Author.Rules.{rules}
 use Rattle.converting.proofs.kinds.put_in.Goals as goal
 
 pub put_long-requires : goal.put_long-requires

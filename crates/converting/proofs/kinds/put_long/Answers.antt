@@ -4,7 +4,6 @@ use mathlib.Core.Path.{sym, ap, ◌∙◌}
 use native.Mathlib.Omega.{arith}
 use Rattle.endian.specs.Endian.{put_at}
 use Rattle.converting.proofs.EitherEdition.{shift-parts, shift-view, long-shift, long-shift-length, commit-parts, commit-view, long-commit, long-commit-length}
-use borrow.Author.Rules.{rules}
 use Rattle.converting.proofs.kinds.put_long.Goals as goal
 
 pub put_shift-requires : goal.put_shift-requires

@@ -7,7 +7,6 @@ use Rattle.endian.specs.Endian.{put_at}
 use Rattle.trace.specs.Format.{short_shift_length}
 use Rattle.trace.proofs.Edition.{changed-small}
 use Rattle.converting.proofs.EitherEdition.{shift-parts, shift-view, short-shift-put, short-shift-length, commit-parts, commit-view, short-commit, short-commit-length}
-use borrow.Author.Rules.{rules}
 use Rattle.converting.proofs.kinds.put_short.Goals as goal
 
 pub put_short_shift-requires : goal.put_short_shift-requires

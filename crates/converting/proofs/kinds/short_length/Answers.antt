@@ -3,7 +3,6 @@ use mathlib.Core.Path.{ap}
 use native.Mathlib.Omega.{arith}
 use Rattle.sets.specs.Set.{size}
 use Rattle.converting.proofs.EitherEdition.{shift-view, short-shift-length, commit-parts, commit-few, short-commit-length}
-use borrow.Author.Rules.{rules}
 use Rattle.converting.proofs.kinds.short_length.Goals as goal
 
 pub overflow_mul-result-in-Commit : goal.overflow_mul-result-in-Commit

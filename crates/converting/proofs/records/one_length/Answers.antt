@@ -5,7 +5,6 @@ use lib.ListN.{length}
 use Rattle.store.specs.Limits.{max_keys}
 use Rattle.trace.specs.Meaning.{ListingFits}
 use Rattle.converting.proofs.Going.{parts-both, meant, rows_on}
-use borrow.Author.Rules.{rules}
 use Rattle.converting.proofs.records.one_length.Goals as goal
 
 pub overflow_mul-base : goal.overflow_mul-base

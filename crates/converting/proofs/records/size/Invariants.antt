@@ -1,18 +1,12 @@
 -- `converting::records::size` meets its contract. The loop's invariant: what is reckoned, with the records to come, is the length of the file. Assumes nothing.
-use Prim.Native.Nat.{◌+◌, ◌*◌, ◌≤◌, ◌<◌}
-use mathlib.Core.Path.{◌≡◌, refl, ◌∙◌}
-use native.Mathlib.Omega.{arith}
-use lib.ListN.{length}
-use Rattle.endian.specs.Endian.{Bytes}
+use Prim.Native.Nat.{◌+◌, ◌*◌, ◌≤◌}
+use mathlib.Core.Path.{◌≡◌}
 use Rattle.trace.specs.Result.{taken}
 use Rattle.trace.specs.Format.{Trace, decode}
-use Rattle.trace.specs.Meaning.{RecordSays}
-use Rattle.trace.specs.declared.records.Reading.TheVariants.{Whole}
 use Rattle.state.specs.Room.{ClientRowsRoom, FreshRoom}
 use Rattle.converting.specs.Answers.{edition_of}
 use Rattle.converting.specs.Parts.{longest_record}
-use Rattle.converting.proofs.Going.{first-in-form, this-parts, Reckoned, reckoned-first, reckoned-on, reckoned-all}
-use borrow.Author.Rules.{rules}
+use Rattle.converting.proofs.Going.{Reckoned}
 use Rattle.converting.proofs.records.size.Given as goal
 
 abbrev pub invariant-loop-left : goal.invariant-loop-left

@@ -4,14 +4,10 @@ use mathlib.Core.Path.{◌≡◌, refl, ◌∙◌}
 use native.Mathlib.Omega.{arith}
 use lib.ListN.{length}
 use Rattle.endian.specs.Endian.{Bytes}
-use Rattle.trace.specs.Result.{taken}
-use Rattle.trace.specs.Format.{Trace, decode}
 use Rattle.trace.specs.Meaning.{RecordSays}
 use Rattle.trace.specs.declared.records.Reading.TheVariants.{Whole}
-use Rattle.state.specs.Room.{ClientRowsRoom, FreshRoom}
 use Rattle.converting.specs.Answers.{edition_of}
-use Rattle.converting.proofs.Going.{first-in-form, this-parts, Written, written-first, written-room, written_on, written_all}
-use borrow.Author.Rules.{rules}
+use Rattle.converting.proofs.Going.{first-in-form, this-parts, written-first, written-room, written_on, written_all}
 use Rattle.converting.proofs.records.write.Goals as goal
 use Rattle.converting.proofs.records.write.Goals.{After-known_at-known}
 

@@ -1,17 +1,11 @@
 -- `converting::records::write` meets its contract. The loop's invariant: what is written, with the records to come, is the file. Assumes nothing.
-use Prim.Native.Nat.{◌<◌}
-use mathlib.Core.Path.{◌≡◌, refl, ◌∙◌}
-use native.Mathlib.Omega.{arith}
+use mathlib.Core.Path.{◌≡◌}
 use lib.ListN.{length}
-use Rattle.endian.specs.Endian.{Bytes}
 use Rattle.trace.specs.Result.{taken}
 use Rattle.trace.specs.Format.{Trace, decode}
-use Rattle.trace.specs.Meaning.{RecordSays}
-use Rattle.trace.specs.declared.records.Reading.TheVariants.{Whole}
 use Rattle.state.specs.Room.{ClientRowsRoom, FreshRoom}
 use Rattle.converting.specs.Answers.{edition_of}
-use Rattle.converting.proofs.Going.{first-in-form, this-parts, Written, written-first, written-room, written_on, written_all}
-use borrow.Author.Rules.{rules}
+use Rattle.converting.proofs.Going.{Written}
 use Rattle.converting.proofs.records.write.Given as goal
 
 abbrev pub invariant-loop-left : goal.invariant-loop-left

@@ -1,13 +1,9 @@
 -- `converting::view::differing` meets its contract. The loop's invariant: the set is of the keys passed at which the views differ. Assumes nothing.
 use Prim.Native.Nat.{◌-◌, ◌≤◌}
-use mathlib.Core.Path.{◌≡◌, ap, ◌∙◌}
-use mathlib.Core.Logic.{⊎_elim}
-use native.Mathlib.Omega.{arith}
+use mathlib.Core.Path.{◌≡◌}
 use Rattle.store.specs.Store.{View}
 use Rattle.trace.specs.Edition.{changed}
 use Rattle.state.specs.Rows.{RowAt}
-use Rattle.converting.proofs.Differing.{changed-none, changed-here, changed-not}
-use borrow.Author.Rules.{rules}
 use Rattle.converting.proofs.view.differing.Given as goal
 
 abbrev pub invariant-loop-k : goal.invariant-loop-k

@@ -1,6 +1,5 @@
 -- `reading::linking::add` meets its contract. Assumes nothing.
 use mathlib.Core.Path.{refl}
-use borrow.Author.Rules.{rules}
 use Rattle.reading.proofs.Rows.{gains-row}
 use Rattle.reading.proofs.linking.add.Goals as goal
 

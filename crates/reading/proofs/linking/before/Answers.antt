@@ -1,12 +1,9 @@
 -- `reading::linking::before` meets its contract. The loop's invariant: those that precede are found among the entries that were passed. Assumes nothing.
-use Prim.Native.Nat.{◌+◌, ◌-◌, ◌≤◌, ◌<◌}
-use mathlib.Core.Path.{◌≡◌, ◌∙◌}
+use mathlib.Core.Path.{◌∙◌}
 use native.Mathlib.Omega.{arith}
-use borrow.Author.Rules.{rules}
-use Rattle.reading.specs.Parts.{entry_place}
 use Rattle.reading.proofs.Answers.{said-no}
 use Rattle.reading.proofs.Entries.{entry_first, entry_next, entry-within}
-use Rattle.reading.proofs.Sessions.{FoundBelow, found_none, found_take, found-skip, found-done}
+use Rattle.reading.proofs.Sessions.{found_none, found_take, found-skip, found-done}
 use Rattle.reading.proofs.linking.before.Goals as goal
 use Rattle.reading.proofs.linking.before.Goals.{then-precedes, else-precedes}
 

@@ -1,11 +1,8 @@
 -- `reading::linking::clear` meets its contract. The loop's invariant: the rows that were passed are empty. Assumes nothing.
-use Prim.Native.Nat.{◌-◌, ◌≤◌}
-use mathlib.Core.Path.{◌≡◌, refl, ◌∙◌}
+use mathlib.Core.Path.{refl, ◌∙◌}
 use native.Mathlib.Omega.{arith}
-use lib.ListN.{length, length-set}
-use borrow.Author.Rules.{rules}
-use Rattle.store.specs.Limits.{numbers}
-use Rattle.reading.proofs.Rows.{Cleared, cleared_more, cleared-all}
+use lib.ListN.{length-set}
+use Rattle.reading.proofs.Rows.{cleared_more, cleared-all}
 use Rattle.reading.proofs.linking.clear.Goals as goal
 
 pub loop-c-preserved : goal.loop-c-preserved

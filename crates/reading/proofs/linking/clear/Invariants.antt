@@ -1,11 +1,9 @@
 -- `reading::linking::clear` meets its contract. The loop's invariant: the rows that were passed are empty. Assumes nothing.
 use Prim.Native.Nat.{◌-◌, ◌≤◌}
-use mathlib.Core.Path.{◌≡◌, refl, ◌∙◌}
-use native.Mathlib.Omega.{arith}
-use lib.ListN.{length, length-set}
-use borrow.Author.Rules.{rules}
+use mathlib.Core.Path.{◌≡◌}
+use lib.ListN.{length}
 use Rattle.store.specs.Limits.{numbers}
-use Rattle.reading.proofs.Rows.{Cleared, cleared_more, cleared-all}
+use Rattle.reading.proofs.Rows.{Cleared}
 use Rattle.reading.proofs.linking.clear.Given as goal
 
 abbrev pub invariant-loop-c : goal.invariant-loop-c

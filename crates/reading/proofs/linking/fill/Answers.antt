@@ -5,7 +5,6 @@ use lib.ListN.{length}
 use Rattle.reading.proofs.Shaped.{shaped-is, shaped-short}
 use Rattle.reading.proofs.Keys.{start_is, body-long}
 use Rattle.reading.proofs.Linked.{keep-links}
-use borrow.Author.Rules.{rules}
 use Rattle.reading.proofs.linking.fill.Goals as goal
 use Rattle.reading.proofs.linking.fill.Goals.{After-byte_at-count}
 

@@ -1,13 +1,8 @@
 -- `reading::linking::key_links` meets its contract. The loop's invariant: the versions that were passed have their links, and who wrote or read them is
 -- kept. Assumes nothing.
-use Prim.Native.Nat.{ℕ, ◌-◌, ◌≤◌, ◌<◌}
 use mathlib.Core.Path.{ap, ◌∙◌}
-use mathlib.Core.Logic.{◌↔◌}
 use native.Mathlib.Omega.{arith}
-use lib.Dec.{T}
-use borrow.Author.Rules.{rules}
-use Rattle.sets.specs.Set.{has, union}
-use Rattle.reading.specs.Gains.{Gains, Earlier, KeyLinks}
+use Rattle.sets.specs.Set.{union}
 use Rattle.reading.proofs.Passing.{earlier-first, earlier_more, links-first, links-more, links-done}
 use Rattle.reading.proofs.linking.key_links.Goals as goal
 

@@ -1,14 +1,12 @@
 -- `reading::linking::keys_links` meets its contract. The loop's invariant: the keys that were passed have their links. Assumes nothing.
-use Prim.Native.Nat.{ℕ, ◌+◌, ◌-◌, ◌*◌, ◌≤◌}
+use Prim.Native.Nat.{ℕ, ◌+◌, ◌*◌}
 use mathlib.Core.Path.{◌≡◌, sym, ap, ◌∙◌}
 use native.Mathlib.Omega.{arith}
 use native.Mathlib.Numerals.{add-one}
-use borrow.Author.Rules.{rules}
 use Rattle.store.specs.Reading.{key_place}
 use Rattle.reading.specs.Parts.{key_end}
-use Rattle.reading.specs.Gains.{Gains}
 use Rattle.reading.proofs.Keys.{place-next, key-there}
-use Rattle.reading.proofs.Passing.{KeysLinks, keys_none, keys-more, keys-done}
+use Rattle.reading.proofs.Passing.{keys_none, keys-more, keys-done}
 use Rattle.reading.proofs.linking.keys_links.Goals as goal
 
 pub loop-k-init : goal.loop-k-init

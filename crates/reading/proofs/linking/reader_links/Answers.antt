@@ -1,6 +1,5 @@
 -- `reading::linking::reader_links` meets its contract. The loop's invariant: the readers that were passed have their link. Assumes nothing.
-use borrow.Author.Rules.{rules}
-use Rattle.reading.proofs.Rows.{Shared, shared-none, shared-more, shared-done}
+use Rattle.reading.proofs.Rows.{shared-none, shared-more, shared-done}
 use Rattle.reading.proofs.linking.reader_links.Goals as goal
 
 pub loop-left-init : goal.loop-left-init

@@ -1,12 +1,9 @@
 -- `reading::linking::session_links` meets its contract. The loop's invariant: the entries that were passed have their links. Assumes nothing.
 use Prim.Native.Nat.{◌+◌, ◌-◌, ◌≤◌, ◌<◌}
 use mathlib.Core.Path.{◌≡◌}
-use native.Mathlib.Omega.{arith}
-use borrow.Author.Rules.{rules}
 use Rattle.reading.specs.Parts.{entry_place}
 use Rattle.reading.specs.Gains.{Gains}
-use Rattle.reading.proofs.Entries.{entry_first, entry_next, entry-within}
-use Rattle.reading.proofs.Sessions.{SessionLinks, sessions-none, sessions-more, sessions-done}
+use Rattle.reading.proofs.Sessions.{SessionLinks}
 use Rattle.reading.proofs.linking.session_links.Given as goal
 
 abbrev pub invariant-loop-t : goal.invariant-loop-t

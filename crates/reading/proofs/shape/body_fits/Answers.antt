@@ -7,7 +7,6 @@ use native.Mathlib.Numerals.{add-one}
 use Rattle.sets.specs.Set.{below, without}
 use Rattle.reading.proofs.Answers.{refused, said-no}
 use Rattle.reading.proofs.Keys.{start_is, body-fits, body-entries, body-keys, body-long}
-use borrow.Author.Rules.{rules}
 use Rattle.reading.proofs.shape.body_fits.Goals as goal
 
 pub overflow_mul-start : goal.overflow_mul-start

@@ -1,11 +1,7 @@
 -- `reading::shape::entries_fit` meets its contract. The loop's invariant: the entries that were passed fit. Assumes nothing.
-use Prim.Native.Nat.{◌+◌, ◌-◌, ◌≤◌, ◌<◌}
-use mathlib.Core.Path.{◌≡◌}
 use native.Mathlib.Omega.{arith}
-use borrow.Author.Rules.{rules}
-use Rattle.reading.specs.Parts.{entry_place}
 use Rattle.reading.proofs.Answers.{refused, passed, said-no}
-use Rattle.reading.proofs.Entries.{entry_next, entry-within, entry-fits, entry-small, EntriesFit, entries-more}
+use Rattle.reading.proofs.Entries.{entry_next, entry-within, entry-fits, entry-small, entries-more}
 use Rattle.reading.proofs.shape.entries_fit.Goals as goal
 
 pub u32_at-requires : goal.u32_at-requires

@@ -1,12 +1,8 @@
 -- `reading::shape::entries_fit` meets its contract. The loop's invariant: the entries that were passed fit. Assumes nothing.
 use Prim.Native.Nat.{◌+◌, ◌-◌, ◌≤◌, ◌<◌}
 use mathlib.Core.Path.{◌≡◌}
-use native.Mathlib.Omega.{arith}
-use borrow.Author.Rules.{rules}
-use borrow.Author.Tests.{not-true, not-false}
 use Rattle.reading.specs.Parts.{entry_place}
-use Rattle.reading.proofs.Answers.{refused, passed, said-no}
-use Rattle.reading.proofs.Entries.{entry_next, entry-within, entry-fits, entry-small, EntriesFit, entries-more}
+use Rattle.reading.proofs.Entries.{EntriesFit}
 use Rattle.reading.proofs.shape.entries_fit.Given as goal
 
 abbrev pub invariant-loop-t : goal.invariant-loop-t

@@ -1,7 +1,6 @@
 -- `reading::shape::is_entry` meets its contract. Assumes nothing.
 use mathlib.Core.Path.{sym, ◌∙◌}
 use native.Mathlib.Omega.{arith}
-use borrow.Author.Rules.{rules}
 use Rattle.reading.proofs.Answers.{refused, compared}
 use Rattle.reading.proofs.shape.is_entry.Goals as goal
 

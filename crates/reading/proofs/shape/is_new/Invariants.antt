@@ -1,12 +1,8 @@
 -- `reading::shape::is_new` meets its contract. The loop's invariant: no entry that was passed has the client and the number. Assumes nothing.
-use Prim.Native.Nat.{◌+◌, ◌-◌, ◌≤◌, ◌<◌}
-use mathlib.Core.Path.{◌≡◌, sym, ◌∙◌}
-use mathlib.Core.Bool.{true≢false}
-use native.Mathlib.Omega.{arith}
-use borrow.Author.Rules.{rules}
+use Prim.Native.Nat.{◌-◌, ◌≤◌, ◌<◌}
+use mathlib.Core.Path.{◌≡◌}
 use Rattle.reading.specs.Parts.{entry_place}
-use Rattle.reading.proofs.Answers.{refused, passed}
-use Rattle.reading.proofs.Entries.{entry_next, entry-mono, NoneBears, bears-more, bears-new, bears-old}
+use Rattle.reading.proofs.Entries.{NoneBears}
 use Rattle.reading.proofs.shape.is_new.Given as goal
 
 abbrev pub invariant-loop-a : goal.invariant-loop-a

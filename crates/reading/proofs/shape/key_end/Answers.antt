@@ -6,7 +6,6 @@ use native.Mathlib.Omega.{arith}
 use Rattle.reading.specs.Parts.{VersionsFit}
 use Rattle.reading.proofs.Answers.{said-no}
 use Rattle.reading.proofs.Keys.{key_fits, key-opens}
-use borrow.Author.Rules.{rules}
 use Rattle.reading.proofs.shape.key_end.Goals as goal
 
 pub returns-then-long-at : goal.returns-then-long-at

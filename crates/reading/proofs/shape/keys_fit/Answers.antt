@@ -1,14 +1,12 @@
 -- `reading::shape::keys_fit` meets its contract. The loop's invariant: the keys that were passed fit, and `at` is where they end. Assumes nothing.
-use Prim.Native.Nat.{ℕ, ◌-◌, ◌≤◌}
+use Prim.Native.Nat.{ℕ}
 use mathlib.Core.Path.{◌≡◌, sym, ap, ◌∙◌, subst}
 use native.Mathlib.Omega.{arith}
 use native.Mathlib.Numerals.{add-one}
-use lib.ListN.{length}
-use borrow.Author.Rules.{rules}
 use Rattle.store.specs.Reading.{key_place}
 use Rattle.reading.specs.Parts.{key_end, KeyFits}
 use Rattle.reading.proofs.Answers.{refused, compared}
-use Rattle.reading.proofs.Keys.{place-next, KeysFit, keys-more, end-some, end_none}
+use Rattle.reading.proofs.Keys.{place-next, keys-more, end-some, end_none}
 use Rattle.reading.proofs.shape.keys_fit.Goals as goal
 
 pub returns-then-end-eq0 : goal.returns-then-end-eq0

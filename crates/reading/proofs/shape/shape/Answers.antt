@@ -3,7 +3,6 @@ use mathlib.Core.Path.{sym}
 use native.Mathlib.Omega.{arith}
 use Rattle.search.proofs.Tests.{T_true, T_false, true-T, same_test}
 use Rattle.reading.proofs.Shaped.{shaped-is}
-use borrow.Author.Rules.{rules}
 use Rattle.reading.proofs.shape.shape.Goals as goal
 
 pub returns-then-long-lt8 : goal.returns-then-long-lt8

@@ -1,9 +1,8 @@
 -- `reading::shape::versions_fit` meets its contract. The loop's invariant: the versions that were passed fit, each by itself; their
 -- writers and readers are kept. Assumes nothing.
-use Prim.Native.Nat.{ℕ, ◌-◌, ◌*◌, ◌≤◌}
+use Prim.Native.Nat.{ℕ}
 use mathlib.Core.Path.{◌≡◌, refl, sym, ◌∙◌, subst}
 use native.Mathlib.Omega.{arith}
-use borrow.Author.Rules.{rules}
 use Rattle.endian.specs.Endian.{Bytes}
 use Rattle.reading.proofs.Answers.{refused, compared}
 use Rattle.reading.proofs.Versions.{Passed, passed_none, passed-more, fits_each, writer-fits, readers-fit, fits-done, done-writers, done-readers}

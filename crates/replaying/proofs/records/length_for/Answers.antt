@@ -2,7 +2,6 @@
 use mathlib.Core.Path.{sym, ap}
 use native.Mathlib.Omega.{arith}
 use Rattle.replaying.specs.Full.{replay_length}
-use borrow.Author.Rules.{rules}
 use Rattle.replaying.proofs.records.length_for.Goals as goal
 
 pub overflow_mul-result-in-Commit : goal.overflow_mul-result-in-Commit

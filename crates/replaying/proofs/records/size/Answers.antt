@@ -4,13 +4,10 @@ use mathlib.Core.Path.{◌≡◌}
 use native.Mathlib.Omega.{arith}
 use Rattle.endian.specs.Endian.{Bytes}
 use Rattle.store.specs.Limits.{max_replay}
-use Rattle.trace.specs.Result.{taken}
-use Rattle.trace.specs.Format.{Trace, decode}
 use Rattle.trace.specs.Meaning.{RecordSays}
 use Rattle.trace.specs.declared.records.Reading.TheVariants.{Whole}
 use Rattle.replaying.specs.Full.{replay_length}
-use Rattle.replaying.proofs.Standing.{first-in-form, goes_on, length-on, Reckoned, reckoned-first, reckoned-few, reckoned-all}
-use borrow.Author.Rules.{rules}
+use Rattle.replaying.proofs.Standing.{first-in-form, goes_on, length-on, reckoned-first, reckoned-few, reckoned-all}
 use Rattle.replaying.proofs.records.size.Goals as goal
 use Rattle.replaying.proofs.records.size.Goals.{After-known_at-known}
 

@@ -1,16 +1,8 @@
 -- `replaying::records::size` meets its contract. The loop's invariant: what is reckoned, with the records to come, is the length of the replay. Assumes nothing.
-use Prim.Native.Nat.{◌+◌, ◌≤◌, ◌<◌}
 use mathlib.Core.Path.{◌≡◌}
-use native.Mathlib.Omega.{arith}
-use Rattle.endian.specs.Endian.{Bytes}
-use Rattle.store.specs.Limits.{max_replay}
 use Rattle.trace.specs.Result.{taken}
 use Rattle.trace.specs.Format.{Trace, decode}
-use Rattle.trace.specs.Meaning.{RecordSays}
-use Rattle.trace.specs.declared.records.Reading.TheVariants.{Whole}
-use Rattle.replaying.specs.Full.{replay_length}
-use Rattle.replaying.proofs.Standing.{first-in-form, goes_on, length-on, Reckoned, reckoned-first, reckoned-few, reckoned-all}
-use borrow.Author.Rules.{rules}
+use Rattle.replaying.proofs.Standing.{Reckoned}
 use Rattle.replaying.proofs.records.size.Given as goal
 
 abbrev pub invariant-loop-left : goal.invariant-loop-left

@@ -5,13 +5,9 @@ use mathlib.Core.Path.{◌≡◌, refl, ◌∙◌}
 use native.Mathlib.Omega.{arith}
 use lib.ListN.{length}
 use Rattle.endian.specs.Endian.{Bytes}
-use Rattle.trace.specs.Result.{taken}
-use Rattle.trace.specs.Format.{Trace, decode}
 use Rattle.trace.specs.Meaning.{RecordSays}
 use Rattle.trace.specs.declared.records.Reading.TheVariants.{Whole}
-use Rattle.state.specs.Room.{FreshRoom, ValuesRoom}
-use Rattle.replaying.proofs.Standing.{first-in-form, this, length-on, Written, written-first, written_on, written_all}
-use borrow.Author.Rules.{rules}
+use Rattle.replaying.proofs.Standing.{first-in-form, this, length-on, written-first, written_on, written_all}
 use Rattle.replaying.proofs.records.write.Goals as goal
 use Rattle.replaying.proofs.records.write.Goals.{After-known_at-known}
 

@@ -1,17 +1,11 @@
 -- `replaying::records::write` meets its contract. The loop's invariant: what is written, with the records to come, is the replay, and the masks are those of the
 -- full view that it has come to. Assumes nothing.
-use Prim.Native.Nat.{◌<◌}
-use mathlib.Core.Path.{◌≡◌, refl, ◌∙◌}
-use native.Mathlib.Omega.{arith}
+use mathlib.Core.Path.{◌≡◌}
 use lib.ListN.{length}
-use Rattle.endian.specs.Endian.{Bytes}
 use Rattle.trace.specs.Result.{taken}
 use Rattle.trace.specs.Format.{Trace, decode}
-use Rattle.trace.specs.Meaning.{RecordSays}
-use Rattle.trace.specs.declared.records.Reading.TheVariants.{Whole}
 use Rattle.state.specs.Room.{FreshRoom, ValuesRoom}
-use Rattle.replaying.proofs.Standing.{first-in-form, this, length-on, Written, written-first, written_on, written_all}
-use borrow.Author.Rules.{rules}
+use Rattle.replaying.proofs.Standing.{Written}
 use Rattle.replaying.proofs.records.write.Given as goal
 
 abbrev pub invariant-loop-left : goal.invariant-loop-left

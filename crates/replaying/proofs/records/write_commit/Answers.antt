@@ -5,7 +5,6 @@ use Rattle.store.specs.Store.{Commit, write}
 use Rattle.trace.specs.Format.{operations_at}
 use Rattle.replaying.proofs.Full.{small_mask, full-after, row_written}
 use Rattle.replaying.proofs.Committed.{put_both}
-use borrow.Author.Rules.{rules}
 use Rattle.replaying.proofs.records.write_commit.Goals as goal
 
 pub grow-requires : goal.grow-requires

@@ -4,7 +4,6 @@ use native.Mathlib.Omega.{arith}
 use Rattle.run.specs.OneRecord.{Readable}
 use Rattle.replaying.specs.Full.{replay_length}
 use Rattle.replaying.proofs.Committed.{wrote-shift, wrote-commit}
-use borrow.Author.Rules.{rules}
 use Rattle.replaying.proofs.records.write_one.Goals as goal
 
 pub write_commit-requires : goal.write_commit-requires

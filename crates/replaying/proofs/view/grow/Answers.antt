@@ -1,10 +1,9 @@
 -- `replaying::view::grow` meets its contract. The loop's invariant: the keys passed have their mask after, the others still that before. Assumes nothing.
-use Prim.Native.Nat.{◌-◌, ◌^◌, ◌≤◌, ◌<◌}
-use mathlib.Core.Path.{◌≡◌, refl, sym, ◌∙◌, subst}
+use Prim.Native.Nat.{◌^◌, ◌<◌}
+use mathlib.Core.Path.{refl, sym, ◌∙◌, subst}
 use native.Mathlib.Omega.{arith}
-use lib.ListN.{length, length-set}
-use Rattle.replaying.proofs.Grown.{Grown, none-grown, grown-more}
-use borrow.Author.Rules.{rules}
+use lib.ListN.{length-set}
+use Rattle.replaying.proofs.Grown.{none-grown, grown-more}
 use Rattle.replaying.proofs.view.grow.Goals as goal
 
 pub loop-k-init : goal.loop-k-init

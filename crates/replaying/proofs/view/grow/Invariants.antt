@@ -1,10 +1,8 @@
 -- `replaying::view::grow` meets its contract. The loop's invariant: the keys passed have their mask after, the others still that before. Assumes nothing.
-use Prim.Native.Nat.{◌-◌, ◌^◌, ◌≤◌, ◌<◌}
-use mathlib.Core.Path.{◌≡◌, refl, sym, ◌∙◌, subst}
-use native.Mathlib.Omega.{arith}
-use lib.ListN.{length, length-set}
-use Rattle.replaying.proofs.Grown.{Grown, none-grown, grown-more}
-use borrow.Author.Rules.{rules}
+use Prim.Native.Nat.{◌-◌, ◌≤◌}
+use mathlib.Core.Path.{◌≡◌}
+use lib.ListN.{length}
+use Rattle.replaying.proofs.Grown.{Grown}
 use Rattle.replaying.proofs.view.grow.Given as goal
 
 abbrev pub invariant-loop-k : goal.invariant-loop-k

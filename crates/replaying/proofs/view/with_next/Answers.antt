@@ -1,7 +1,6 @@
 -- `replaying::view::with_next` meets its contract: the mask that is added is there or not. Assumes nothing.
 use native.Mathlib.Omega.{arith}
 use Rattle.replaying.proofs.Grown.{product, next-mask}
-use borrow.Author.Rules.{rules}
 use Rattle.replaying.proofs.view.with_next.Goals as goal
 
 pub overflow_mul-result : goal.overflow_mul-result

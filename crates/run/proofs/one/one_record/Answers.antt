@@ -3,7 +3,6 @@ use mathlib.Core.Path.{subst}
 use native.Mathlib.Omega.{arith}
 use Rattle.run.specs.OneRecord.{Readable}
 use Rattle.run.proofs.OneRecord.{shift_one, sorted-in, commit-one}
-use borrow.Author.Rules.{rules}
 use Rattle.run.proofs.one.one_record.Goals as goal
 
 pub shift_to-requires : goal.shift_to-requires

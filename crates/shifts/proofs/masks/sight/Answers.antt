@@ -1,7 +1,6 @@
 -- `shifts::masks::sight` meets its contract. Assumes nothing.
 use mathlib.Core.Path.{◌≡◌, sym, ap, subst, ◌∙◌}
 use mathlib.Core.Option.{none}
-use borrow.Author.Rules.{rules}
 use Rattle.store.specs.Refusal.{bad_mask}
 use Rattle.state.specs.Answers.{key_of}
 use Rattle.views.specs.Viewed.{ViewedAs}

@@ -14,7 +14,6 @@ use Rattle.views.specs.Viewed.{NewMasks}
 use Rattle.shifts.specs.Outcomes.{SightSays, ShiftGiven}
 use Rattle.shifts.proofs.Replaced.{shift-replaces}
 use Rattle.shifts.proofs.Refused.{refused-masks, refused-12, not-refused, not_taken, masks-given}
-use borrow.Author.Rules.{rules}
 use Rattle.shifts.proofs.shift.shift_on.Goals as goal
 use Rattle.shifts.proofs.shift.shift_on.Goals.{After-lost, After-sight}
 

@@ -4,7 +4,6 @@ use native.Mathlib.Omega.{arith}
 use lib.ListN.{length}
 use Rattle.store.specs.Limits.{max_keys}
 use Rattle.shifts.proofs.Refused.{row-given, masks-filled}
-use borrow.Author.Rules.{rules}
 use Rattle.shifts.proofs.shift.shift_to.Goals as goal
 
 pub returns : goal.returns

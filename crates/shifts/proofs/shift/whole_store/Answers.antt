@@ -1,6 +1,5 @@
 -- `shifts::shift::whole_store` meets its contract. Assumes nothing.
 use native.Mathlib.Omega.{arith}
-use borrow.Author.Rules.{rules}
 use Rattle.shifts.proofs.WholeStore.{whole-not-refused, whole-kept}
 use Rattle.shifts.proofs.shift.whole_store.Goals as goal
 

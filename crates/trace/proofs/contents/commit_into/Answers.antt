@@ -2,8 +2,6 @@
 use native.Mathlib.Omega.{arith}
 use Rattle.store.specs.Limits.{max_keys}
 use Rattle.trace.proofs.Filling.{touched-room, touched-below, touched-lists, lists-by, row_put}
-use borrow.Author.Rules.{rules}
-use borrow.Author.Rules.{rules}
 use Rattle.trace.proofs.contents.commit_into.Goals as goal
 
 pub touched_into-requires : goal.touched_into-requires

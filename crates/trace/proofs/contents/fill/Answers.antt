@@ -4,7 +4,6 @@ use native.Mathlib.Omega.{arith}
 use Rattle.sets.proofs.Laws.{has-lt}
 use Rattle.sets.proofs.Counting.{size-how_many}
 use Rattle.trace.proofs.Filling.{every-fits, every-put, only-fits, only-lists, all_fit, all-put, touched-fits, touched-room, touched-below, touched-lists, row_put, row_kept}
-use borrow.Author.Rules.{rules}
 use Rattle.trace.proofs.contents.fill.Goals as goal
 
 pub masks_into-requires : goal.masks_into-requires

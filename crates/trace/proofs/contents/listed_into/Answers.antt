@@ -1,9 +1,7 @@
 -- `trace::contents::listed_into` meets its contract: the masks up to a key are put, and the others are as they were. Assumes nothing.
-use Prim.Native.Nat.{◌^◌, ◌<◌}
 use mathlib.Core.Path.{refl}
 use native.Mathlib.Omega.{arith}
-use Rattle.trace.proofs.Masks.{Putting, putting-none, putting-room, putting-key, putting-more, putting-all}
-use borrow.Author.Rules.{rules}
+use Rattle.trace.proofs.Masks.{putting-none, putting-room, putting-key, putting-more, putting-all}
 use Rattle.trace.proofs.contents.listed_into.Goals as goal
 
 pub loop-left-init : goal.loop-left-init

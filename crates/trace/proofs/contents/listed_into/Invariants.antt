@@ -1,9 +1,6 @@
 -- `trace::contents::listed_into` meets its contract: the masks up to a key are put, and the others are as they were. Assumes nothing.
 use Prim.Native.Nat.{◌^◌, ◌<◌}
-use mathlib.Core.Path.{refl}
-use native.Mathlib.Omega.{arith}
-use Rattle.trace.proofs.Masks.{Putting, putting-none, putting-room, putting-key, putting-more, putting-all}
-use borrow.Author.Rules.{rules}
+use Rattle.trace.proofs.Masks.{Putting}
 use Rattle.trace.proofs.contents.listed_into.Given as goal
 
 abbrev pub invariant-loop-left : goal.invariant-loop-left
@@ -11,4 +8,3 @@ invariant-loop-left l = (l.left < 2 ^ 64) × Putting l.s l.start l.listed l.init
 
 abbrev pub decreases-loop-left : goal.decreases-loop-left
 decreases-loop-left l = l.left
-

@@ -1,11 +1,10 @@
 -- `trace::contents::masks_into` meets its contract: the masks passed are filled in, and the others are as they were. Assumes nothing.
-use borrow.Author.Rules.{rules}
-use Prim.Native.Nat.{◌+◌, ◌-◌, ◌*◌, ◌≤◌}
+use Prim.Native.Nat.{◌+◌, ◌*◌}
 use mathlib.Core.Path.{ap}
 use native.Mathlib.Omega.{arith}
 use lib.ListN.{set}
 use Rattle.endian.specs.Endian.{le_at}
-use Rattle.trace.proofs.Filled.{Filled, filled_none, filled_more}
+use Rattle.trace.proofs.Filled.{filled_none, filled_more}
 use Rattle.trace.proofs.contents.masks_into.Goals as goal
 
 pub loop-i-init : goal.loop-i-init

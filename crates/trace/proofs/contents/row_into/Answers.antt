@@ -1,10 +1,7 @@
 -- `trace::contents::row_into` meets its contract: the elements passed are those of the row, and the others are as they were. Assumes nothing.
-use Prim.Native.Nat.{◌+◌, ◌-◌, ◌≤◌}
 use mathlib.Core.Path.{refl}
 use native.Mathlib.Omega.{arith}
-use lib.ListN.{get_or}
-use Rattle.trace.proofs.Filled.{Filled, filled_none, filled_more}
-use borrow.Author.Rules.{rules}
+use Rattle.trace.proofs.Filled.{filled_none, filled_more}
 use Rattle.trace.proofs.contents.row_into.Goals as goal
 
 pub loop-i-init : goal.loop-i-init

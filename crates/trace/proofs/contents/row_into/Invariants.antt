@@ -1,10 +1,7 @@
 -- `trace::contents::row_into` meets its contract: the elements passed are those of the row, and the others are as they were. Assumes nothing.
 use Prim.Native.Nat.{◌+◌, ◌-◌, ◌≤◌}
-use mathlib.Core.Path.{refl}
-use native.Mathlib.Omega.{arith}
 use lib.ListN.{get_or}
-use Rattle.trace.proofs.Filled.{Filled, filled_none, filled_more}
-use borrow.Author.Rules.{rules}
+use Rattle.trace.proofs.Filled.{Filled}
 use Rattle.trace.proofs.contents.row_into.Given as goal
 
 abbrev pub invariant-loop-i : goal.invariant-loop-i
@@ -12,4 +9,3 @@ invariant-loop-i l = (l.i ≤ l.n) × Filled (λ k. get_or l.views (l.base + k) 
 
 abbrev pub decreases-loop-i : goal.decreases-loop-i
 decreases-loop-i l = l.n - l.i
-

@@ -1,8 +1,6 @@
 -- `trace::contents::sort_operations` meets its contract: operations that fit are not refused. Assumes nothing.
 use Rattle.search.proofs.Tests.{true-T, false-T}
 use Rattle.trace.proofs.Sorting.{says-fit, says-unfit}
-use borrow.Author.Rules.{rules}
-use borrow.Author.Rules.{rules}
 use Rattle.trace.proofs.contents.sort_operations.Goals as goal
 
 pub returns-in_default : goal.returns-in_default

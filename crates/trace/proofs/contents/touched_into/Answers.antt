@@ -1,9 +1,8 @@
 -- `trace::contents::touched_into` meets its contract: the masks up to a key are put, and the others are as they were. Assumes nothing.
-use Prim.Native.Nat.{◌/◌, ◌^◌, ◌<◌}
+use Prim.Native.Nat.{◌/◌}
 use mathlib.Core.Path.{refl, ap}
 use native.Mathlib.Omega.{arith}
-use Rattle.trace.proofs.Masks.{PuttingBy, by-none, by_key, by-room, by-more, by_all}
-use borrow.Author.Rules.{rules}
+use Rattle.trace.proofs.Masks.{by-none, by_key, by-room, by-more, by_all}
 use Rattle.trace.proofs.contents.touched_into.Goals as goal
 
 pub loop-left-init : goal.loop-left-init

@@ -1,9 +1,6 @@
 -- `trace::contents::touched_into` meets its contract: the masks up to a key are put, and the others are as they were. Assumes nothing.
-use Prim.Native.Nat.{◌/◌, ◌^◌, ◌<◌}
-use mathlib.Core.Path.{refl, ap}
-use native.Mathlib.Omega.{arith}
-use Rattle.trace.proofs.Masks.{PuttingBy, by-none, by_key, by-room, by-more, by_all}
-use borrow.Author.Rules.{rules}
+use Prim.Native.Nat.{◌^◌, ◌<◌}
+use Rattle.trace.proofs.Masks.{PuttingBy}
 use Rattle.trace.proofs.contents.touched_into.Given as goal
 
 abbrev pub invariant-loop-left : goal.invariant-loop-left
@@ -11,4 +8,3 @@ invariant-loop-left l = (l.left < 2 ^ 64) × (l.ranks < 2 ^ 64) × PuttingBy l.s
 
 abbrev pub decreases-loop-left : goal.decreases-loop-left
 decreases-loop-left l = l.left
-

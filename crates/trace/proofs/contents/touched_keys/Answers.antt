@@ -1,7 +1,6 @@
 -- `trace::contents::touched_keys` meets its contract: the keys of the operations passed, and of those that are left. Assumes nothing.
 use native.Mathlib.Omega.{arith}
-use Rattle.trace.proofs.Touched.{Gathered, gathered_none, gathered-key, gathered-more, gathered-all}
-use borrow.Author.Rules.{rules}
+use Rattle.trace.proofs.Touched.{gathered_none, gathered-key, gathered-more, gathered-all}
 use Rattle.trace.proofs.contents.touched_keys.Goals as goal
 
 pub loop-left-init : goal.loop-left-init

@@ -1,7 +1,5 @@
 -- `trace::contents::touched_keys` meets its contract: the keys of the operations passed, and of those that are left. Assumes nothing.
-use native.Mathlib.Omega.{arith}
-use Rattle.trace.proofs.Touched.{Gathered, gathered_none, gathered-key, gathered-more, gathered-all}
-use borrow.Author.Rules.{rules}
+use Rattle.trace.proofs.Touched.{Gathered}
 use Rattle.trace.proofs.contents.touched_keys.Given as goal
 
 abbrev pub invariant-loop-left : goal.invariant-loop-left
@@ -9,4 +7,3 @@ invariant-loop-left l = Gathered l.s l.start l.m l.listed l.at l.left
 
 abbrev pub decreases-loop-left : goal.decreases-loop-left
 decreases-loop-left l = l.left
-

@@ -2,7 +2,6 @@
 use Prim.Native.Nat.{◌+◌}
 use mathlib.Core.Path.{ap, subst, ◌∙◌}
 use native.Mathlib.Omega.{arith}
-use borrow.Author.Rules.{rules}
 use Rattle.trace.specs.declared.form.Pass.TheVariants.{Going, Stopped}
 use Rattle.trace.specs.Meaning.{refusal_number, PassFits, pass_after}
 use Rattle.trace.proofs.form.after.Goals as goal

@@ -1,7 +1,6 @@
 -- `trace::form::counted` meets its contract: a refusal stays, a commit too many is one, and any other record stays. Assumes nothing.
 use mathlib.Core.Path.{refl}
 use Rattle.search.proofs.Steps.{choose-first, choose-second, tests}
-use borrow.Author.Rules.{rules}
 use Rattle.trace.specs.Meaning.{counted_of}
 use Rattle.trace.proofs.form.counted.Goals as goal
 

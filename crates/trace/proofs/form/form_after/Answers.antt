@@ -1,7 +1,6 @@
 -- `trace::form::form_after` meets its contract. Assumes nothing.
 use mathlib.Core.Path.{refl}
 use Rattle.search.proofs.Steps.{choose-first, choose-second, tests}
-use borrow.Author.Rules.{rules}
 use Rattle.trace.proofs.form.form_after.Goals as goal
 
 pub returns-then-at-len : goal.returns-then-at-len

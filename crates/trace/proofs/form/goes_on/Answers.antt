@@ -1,5 +1,4 @@
 -- `trace::form::goes_on` meets its contract. Assumes nothing.
-use borrow.Author.Rules.{rules}
 use Rattle.trace.proofs.form.goes_on.Goals as goal
 
 pub returns : goal.returns

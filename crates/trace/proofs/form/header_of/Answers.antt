@@ -5,7 +5,6 @@ use Rattle.search.proofs.Steps.{need-met, need-unmet, tests}
 use Rattle.trace.specs.Format.{within_limits, decode}
 use Rattle.trace.specs.Meaning.{HeaderSays}
 use Rattle.trace.proofs.InForm.{is-header_at, headed}
-use borrow.Author.Rules.{rules}
 use Rattle.trace.proofs.form.header_of.Goals as goal
 
 pub returns-then-len-lt-HEADER : goal.returns-then-len-lt-HEADER

@@ -1,6 +1,6 @@
 -- `trace::form::records_form` meets its contract. All that is known of the pass is in `Pass.antt`: what it says at its place, and that fewer records are left after a turn.
 -- Assumes nothing.
-use Rattle.std.proofs.Common.{◌≡◌, true, false, length, ap, sym, ◌∙◌, subst, arith, rules}
+use Rattle.std.proofs.Common.{◌≡◌, true, false, ap}
 use Rattle.trace.specs.Meaning.{goes_on, RecordSays}
 use Rattle.trace.proofs.Pass.{pass-begins, pass-within, pass-after, pass-ends}
 use Rattle.trace.proofs.form.records_form.Goals as goal

@@ -1,7 +1,6 @@
 -- `trace::records::commits_with` meets its contract: one case for each kind of record. Assumes nothing.
 use native.Mathlib.Numerals.{add-one}
 use Rattle.trace.specs.Meaning.{entry_of}
-use borrow.Author.Rules.{rules}
 use Rattle.trace.proofs.records.commits_with.Goals as goal
 
 pub returns-in-Shift : goal.returns-in-Shift

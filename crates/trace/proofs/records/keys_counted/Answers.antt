@@ -2,8 +2,6 @@
 use mathlib.Core.Path.{◌∙◌}
 use native.Mathlib.Omega.{arith}
 use Rattle.trace.proofs.Sorting.{says-fit, firsts-many}
-use borrow.Author.Rules.{rules}
-use borrow.Author.Rules.{rules}
 use Rattle.trace.proofs.records.keys_counted.Goals as goal
 
 pub returns-in-Fit : goal.returns-in-Fit

@@ -1,13 +1,7 @@
 -- `trace::records::keys_in` meets its contract: what was counted, and what is left. Assumes nothing.
-use Prim.Native.Nat.{◌+◌, ◌*◌, ◌≤◌}
-use mathlib.Core.Path.{◌≡◌, sym, ◌∙◌}
-use mathlib.Core.Logic.{⊎_elim}
+use mathlib.Core.Path.{sym, ◌∙◌}
 use native.Mathlib.Omega.{arith}
-use lib.ListN.{length}
-use Rattle.trace.specs.Listed.{keys_after, keys_in}
-use Rattle.trace.specs.Format.{operations_at}
 use Rattle.trace.proofs.Counted.{keys-start, keys-done, keys-same, keys-other}
-use borrow.Author.Rules.{rules}
 use Rattle.trace.proofs.records.keys_in.Goals as goal
 use Rattle.trace.proofs.records.keys_in.Goals.{then-key-last, else-key-last}
 

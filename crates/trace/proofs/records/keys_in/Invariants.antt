@@ -1,13 +1,9 @@
 -- `trace::records::keys_in` meets its contract: what was counted, and what is left. Assumes nothing.
 use Prim.Native.Nat.{◌+◌, ◌*◌, ◌≤◌}
-use mathlib.Core.Path.{◌≡◌, sym, ◌∙◌}
-use mathlib.Core.Logic.{⊎_elim}
-use native.Mathlib.Omega.{arith}
+use mathlib.Core.Path.{◌≡◌}
 use lib.ListN.{length}
 use Rattle.trace.specs.Listed.{keys_after, keys_in}
 use Rattle.trace.specs.Format.{operations_at}
-use Rattle.trace.proofs.Counted.{keys-start, keys-done, keys-same, keys-other}
-use borrow.Author.Rules.{rules}
 use Rattle.trace.proofs.records.keys_in.Given as goal
 
 abbrev pub invariant-loop-left : goal.invariant-loop-left
@@ -15,4 +11,3 @@ invariant-loop-left l = (l.at + 8 * l.left ≤ length l.s) × (l.count + l.left 
 
 abbrev pub decreases-loop-left : goal.decreases-loop-left
 decreases-loop-left l = l.left
-

@@ -1,7 +1,6 @@
 -- `trace::records::known_at` meets its contract: a record in form goes as far as is read of it, by its kind. Assumes nothing.
 use native.Mathlib.Omega.{arith}
 use Rattle.trace.proofs.Known.{six-bytes, shift-within, commit-within, short-shift-within, short-shift-end, short-commit-within, short-commit-end, operations-within, shift-known, short-shift-known, short-commit-known, commit-known}
-use borrow.Author.Rules.{rules}
 use Rattle.trace.proofs.records.known_at.Goals as goal
 
 pub overflow_add-at : goal.overflow_add-at

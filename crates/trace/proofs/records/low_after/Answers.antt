@@ -6,7 +6,6 @@ use Rattle.search.proofs.Steps.{choose-first, choose-second}
 use Rattle.search.proofs.Tests.{T_true, T_false}
 use Rattle.endian.specs.Endian.{le_at}
 use Rattle.trace.proofs.Tests.{operation_fits-is, operation-parts}
-use borrow.Author.Rules.{rules}
 use Rattle.trace.proofs.records.low_after.Goals as goal
 use Rattle.trace.proofs.records.low_after.Goals.{After-u32_at-w}
 

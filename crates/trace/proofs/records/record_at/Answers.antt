@@ -4,8 +4,6 @@ use Rattle.search.proofs.Steps.{need-met, need-unmet, choose-first, choose-secon
 use Rattle.trace.specs.Format.{record_at}
 use Rattle.trace.specs.Meaning.{reading_of}
 use Rattle.trace.proofs.Sorting.{shift-unsorted, short-shift-unsorted}
-use borrow.Author.Rules.{rules}
-use borrow.Author.Rules.{rules}
 use Rattle.trace.proofs.records.record_at.Goals as goal
 
 pub returns-then-s-at : goal.returns-then-s-at

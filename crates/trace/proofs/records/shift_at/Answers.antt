@@ -3,7 +3,6 @@ use native.Mathlib.Omega.{arith}
 use Rattle.trace.specs.Format.{shift_at}
 use Rattle.search.proofs.Steps.{need-met, need-unmet, tests}
 use Rattle.trace.specs.Meaning.{listing_of, entry_of, reading_of, ListingFits, PlacesFit}
-use borrow.Author.Rules.{rules}
 use Rattle.trace.proofs.records.shift_at.Goals as goal
 
 pub returns-then-u16_at-size : goal.returns-then-u16_at-size

@@ -2,8 +2,6 @@
 use Rattle.search.proofs.Steps.{need-met, need-unmet, tests}
 use Rattle.trace.specs.Format.{short_commit_in, short_commit_at}
 use Rattle.trace.specs.Meaning.{reading_of}
-use borrow.Author.Rules.{rules}
-use borrow.Author.Rules.{rules}
 use Rattle.trace.proofs.records.short_commit_at.Goals as goal
 
 pub returns-then-s-at : goal.returns-then-s-at

@@ -5,8 +5,6 @@ use Rattle.trace.specs.Format.{short_commit_of}
 use Rattle.trace.specs.Meaning.{listing_of, entry_of, reading_of, ListingFits, PlacesFit}
 use Rattle.trace.specs.Sorted.{ListsBy, RecordSorted}
 use Rattle.trace.proofs.Sorting.{says-fit, says-touched, says-unfit}
-use borrow.Author.Rules.{rules}
-use borrow.Author.Rules.{rules}
 use Rattle.trace.proofs.records.short_commit_of.Goals as goal
 
 pub returns-then-size-m : goal.returns-then-size-m

@@ -1,9 +1,7 @@
 -- `trace::records::short_shift_at` meets its contract: the tests are those of short_shift_at, in their order. Assumes nothing.
-use native.Mathlib.Omega.{arith}
 use Rattle.trace.specs.Format.{short_shift_at}
 use Rattle.search.proofs.Steps.{need-met, need-unmet, tests}
 use Rattle.trace.specs.Meaning.{listing_of, entry_of, reading_of, ListingFits, PlacesFit}
-use borrow.Author.Rules.{rules}
 use Rattle.trace.proofs.records.short_shift_at.Goals as goal
 
 pub returns-then-s-at : goal.returns-then-s-at

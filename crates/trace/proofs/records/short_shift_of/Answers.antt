@@ -5,7 +5,6 @@ use Rattle.trace.specs.Format.{short_shift_of}
 use Rattle.search.proofs.Steps.{need-met, need-unmet, tests}
 use Rattle.trace.specs.Meaning.{listing_of, entry_of, reading_of, ListingFits, PlacesFit}
 use Rattle.trace.proofs.Counted.{above, under}
-use borrow.Author.Rules.{rules}
 use Rattle.trace.proofs.records.short_shift_of.Goals as goal
 
 pub returns-then-size : goal.returns-then-size

@@ -1,15 +1,14 @@
 -- `trace::records::sort` meets its contract: the operations passed fit and are sorted, and what is left to test comes to the whole test. Assumes nothing.
-use Prim.Native.Nat.{◌+◌, ◌-◌, ◌*◌, ◌≤◌, ◌<◌}
+use Prim.Native.Nat.{◌+◌, ◌-◌, ◌*◌, ◌<◌}
 use mathlib.Core.Path.{◌≡◌, refl, ◌∙◌}
 use mathlib.Core.Bool.{true}
 use native.Mathlib.Omega.{arith}
-use lib.ListN.{length, length-set}
+use lib.ListN.{length-set}
 use Rattle.store.specs.Limits.{max_keys}
-use Rattle.trace.specs.Format.{rank_at, operation_fits, operations_fit}
-use Rattle.trace.specs.Sorted.{ValuesFit, SortSays}
-use Rattle.trace.proofs.Ranks.{SortedUp, sorted_none, next_fits, sorted-turn, values-put}
+use Rattle.trace.specs.Format.{rank_at, operation_fits}
+use Rattle.trace.specs.Sorted.{SortSays}
+use Rattle.trace.proofs.Ranks.{sorted_none, next_fits, sorted-turn, values-put}
 use Rattle.trace.proofs.Tests.{low-rises, low-stops, operations_fit-next, operations_fit-stop, operations_fit-none}
-use borrow.Author.Rules.{rules}
 use Rattle.trace.proofs.records.sort.Goals as goal
 use Rattle.trace.proofs.records.sort.Goals.{After-u32_at}
 

@@ -1,15 +1,10 @@
 -- `trace::records::sort` meets its contract: the operations passed fit and are sorted, and what is left to test comes to the whole test. Assumes nothing.
-use Prim.Native.Nat.{◌+◌, ◌-◌, ◌*◌, ◌≤◌, ◌<◌}
-use mathlib.Core.Path.{◌≡◌, refl, ◌∙◌}
-use mathlib.Core.Bool.{true}
-use native.Mathlib.Omega.{arith}
-use lib.ListN.{length, length-set}
-use Rattle.store.specs.Limits.{max_keys}
-use Rattle.trace.specs.Format.{rank_at, operation_fits, operations_fit}
-use Rattle.trace.specs.Sorted.{ValuesFit, SortSays}
-use Rattle.trace.proofs.Ranks.{SortedUp, sorted_none, next_fits, sorted-turn, values-put}
-use Rattle.trace.proofs.Tests.{low-rises, low-stops, operations_fit-next, operations_fit-stop, operations_fit-none}
-use borrow.Author.Rules.{rules}
+use Prim.Native.Nat.{◌+◌, ◌-◌, ◌*◌, ◌≤◌}
+use mathlib.Core.Path.{◌≡◌}
+use lib.ListN.{length}
+use Rattle.trace.specs.Format.{operations_fit}
+use Rattle.trace.specs.Sorted.{ValuesFit}
+use Rattle.trace.proofs.Ranks.{SortedUp}
 use Rattle.trace.proofs.records.sort.Given as goal
 
 abbrev pub invariant-loop-left : goal.invariant-loop-left
@@ -23,4 +18,3 @@ invariant-loop-left l =
 
 abbrev pub decreases-loop-left : goal.decreases-loop-left
 decreases-loop-left l = l.left
-

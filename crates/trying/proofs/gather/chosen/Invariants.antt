@@ -1,10 +1,8 @@
 -- `trying::gather::chosen` meets its contract. The loop's invariant: what the versions passed give is gathered. Assumes nothing.
 use Prim.Native.Nat.{◌+◌, ◌*◌, ◌-◌, ◌≤◌}
-use native.Mathlib.Omega.{arith}
-use borrow.Author.Rules.{rules}
 use Rattle.state.specs.Keeps.{IsSet}
 use Rattle.trying.specs.Tries.{ChosenAt}
-use Rattle.trying.proofs.Passing.{From, from-none, from-turn, from_key, from_all}
+use Rattle.trying.proofs.Passing.{From}
 use Rattle.trying.proofs.gather.chosen.Given as goal
 
 abbrev pub invariant-loop-k : goal.invariant-loop-k

@@ -1,5 +1,4 @@
 -- `trying::gather::chosen_at` meets its contract. Assumes nothing.
-use borrow.Author.Rules.{rules}
 use Rattle.state.proofs.Sets.{is_set-none}
 use Rattle.views.proofs.Tests.{taken, left}
 use Rattle.trying.proofs.Gathered.{chosen-version}

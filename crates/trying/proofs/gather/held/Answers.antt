@@ -1,5 +1,4 @@
 -- `trying::gather::held` meets its contract. Assumes nothing.
-use borrow.Author.Rules.{rules}
 use Rattle.trying.proofs.Gathered.{held-chosen}
 use Rattle.trying.proofs.gather.held.Goals as goal
 

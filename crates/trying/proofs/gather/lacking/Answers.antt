@@ -1,5 +1,4 @@
 -- `trying::gather::lacking` meets its contract. Assumes nothing.
-use borrow.Author.Rules.{rules}
 use Rattle.trying.proofs.Gathered.{not-among}
 use Rattle.trying.proofs.gather.lacking.Goals as goal
 

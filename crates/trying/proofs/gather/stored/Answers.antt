@@ -1,5 +1,4 @@
 -- `trying::gather::stored` meets its contract. Assumes nothing.
-use borrow.Author.Rules.{rules}
 use Rattle.trying.proofs.Gathered.{stored-chosen}
 use Rattle.trying.proofs.gather.stored.Goals as goal
 

@@ -1,5 +1,4 @@
 -- `trying::gather::writers` meets its contract. Assumes nothing.
-use borrow.Author.Rules.{rules}
 use Rattle.trying.proofs.Gathered.{writers-chosen}
 use Rattle.trying.proofs.gather.writers.Goals as goal
 

@@ -1,12 +1,8 @@
 -- `trying::links::later_by` meets its contract. The loop's invariant: none of the later versions passed is by a member. Assumes nothing.
-use Prim.Native.Nat.{ℕ, ◌-◌, ◌≤◌, ◌<◌}
-use mathlib.Core.Path.{◌≡◌}
 use native.Mathlib.Omega.{arith}
 use lib.Dec.{T}
-use borrow.Author.Rules.{rules}
 use Rattle.sets.specs.Set.{has}
-use Rattle.store.specs.Limits.{max_keys}
-use Rattle.trying.specs.Recorded.{versions_of, writer_at}
+use Rattle.trying.specs.Recorded.{writer_at}
 use Rattle.trying.proofs.Searching.{none_more, member, no_member}
 use Rattle.trying.proofs.links.later_by.Goals as goal
 

@@ -1,5 +1,4 @@
 -- `trying::links::links_to` meets its contract. Assumes nothing.
-use borrow.Author.Rules.{rules}
 use Rattle.trying.proofs.Searching.{either_first, either_second}
 use Rattle.trying.proofs.links.links_to.Goals as goal
 

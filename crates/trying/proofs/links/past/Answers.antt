@@ -1,5 +1,4 @@
 -- `trying::links::past` meets its contract. Assumes nothing.
-use borrow.Author.Rules.{rules}
 use Rattle.trying.specs.Recorded.{recorded}
 use Rattle.trying.proofs.Linked.{before-is, read_is}
 use Rattle.trying.proofs.links.past.Goals as goal

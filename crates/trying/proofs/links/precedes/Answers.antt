@@ -1,6 +1,5 @@
 -- `trying::links::precedes` meets its contract. Assumes nothing.
 use native.Mathlib.Omega.{arith}
-use borrow.Author.Rules.{rules}
 use Rattle.search.proofs.Tests.{lt-is}
 use Rattle.views.proofs.Tests.{taken, left}
 use Rattle.trying.proofs.links.precedes.Goals as goal

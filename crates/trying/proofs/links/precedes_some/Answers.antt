@@ -1,7 +1,5 @@
 -- `trying::links::precedes_some` meets its contract. The loop's invariant: SO leads to none of the members passed. Assumes nothing.
-use Prim.Native.Nat.{ℕ, ◌-◌, ◌≤◌, ◌<◌}
 use native.Mathlib.Omega.{arith}
-use borrow.Author.Rules.{rules}
 use Rattle.search.proofs.Tests.{true-T, false-T}
 use Rattle.sets.proofs.Laws.{has-lt}
 use Rattle.trying.specs.Tries.{Precedes}

@@ -1,11 +1,6 @@
 -- `trying::links::precedes_some` meets its contract. The loop's invariant: SO leads to none of the members passed. Assumes nothing.
 use Prim.Native.Nat.{ℕ, ◌-◌, ◌≤◌, ◌<◌}
-use native.Mathlib.Omega.{arith}
-use borrow.Author.Rules.{rules}
-use Rattle.search.proofs.Tests.{true-T, false-T}
-use Rattle.sets.proofs.Laws.{has-lt}
 use Rattle.trying.specs.Tries.{Precedes}
-use Rattle.trying.proofs.Searching.{none_more}
 use Rattle.trying.proofs.links.precedes_some.Given as goal
 
 abbrev pub invariant-loop-b : goal.invariant-loop-b

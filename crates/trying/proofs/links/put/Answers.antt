@@ -1,6 +1,5 @@
 -- `trying::links::put` meets its contract. Assumes nothing.
 use mathlib.Core.Path.{refl}
-use borrow.Author.Rules.{rules}
 use Rattle.search.proofs.Tests.{true-T, false-T}
 use Rattle.trying.proofs.links.put.Goals as goal
 

@@ -1,11 +1,9 @@
 -- `trying::links::starts` meets its contract. The loop's invariant: no link starts at one of the versions passed. Assumes nothing.
-use Prim.Native.Nat.{◌+◌, ◌*◌, ◌-◌, ◌≤◌}
 use mathlib.Core.Logic.{⊎_elim}
 use native.Mathlib.Omega.{arith}
-use borrow.Author.Rules.{rules}
 use Rattle.search.proofs.Tests.{true-T, false-T}
 use Rattle.trying.specs.Tries.{StartsAt}
-use Rattle.trying.proofs.Passing.{SomePassed, passed_none, passed-turn, passed-key, passed-all}
+use Rattle.trying.proofs.Passing.{passed_none, passed-turn, passed-key, passed-all}
 use Rattle.trying.proofs.links.starts.Goals as goal
 
 pub loop-k-init : goal.loop-k-init

@@ -1,11 +1,7 @@
 -- `trying::links::starts` meets its contract. The loop's invariant: no link starts at one of the versions passed. Assumes nothing.
 use Prim.Native.Nat.{◌+◌, ◌*◌, ◌-◌, ◌≤◌}
-use mathlib.Core.Logic.{⊎_elim}
-use native.Mathlib.Omega.{arith}
-use borrow.Author.Rules.{rules}
-use Rattle.search.proofs.Tests.{true-T, false-T}
 use Rattle.trying.specs.Tries.{StartsAt}
-use Rattle.trying.proofs.Passing.{SomePassed, passed_none, passed-turn, passed-key, passed-all}
+use Rattle.trying.proofs.Passing.{SomePassed}
 use Rattle.trying.proofs.links.starts.Given as goal
 
 abbrev pub invariant-loop-k : goal.invariant-loop-k

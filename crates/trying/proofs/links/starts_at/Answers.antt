@@ -1,5 +1,4 @@
 -- `trying::links::starts_at` meets its contract. Assumes nothing.
-use borrow.Author.Rules.{rules}
 use Rattle.trying.proofs.Searching.{either_first, either_second}
 use Rattle.trying.proofs.links.starts_at.Goals as goal
 

@@ -1,6 +1,5 @@
 -- `trying::links::starts_by_read` meets its contract. Assumes nothing.
 use mathlib.Core.Path.{sym, ap, ◌∙◌, subst}
-use borrow.Author.Rules.{rules}
 use Rattle.sets.specs.Set.{Set, without}
 use Rattle.views.proofs.Tests.{taken, left}
 use Rattle.trying.specs.Tries.{LaterBy}

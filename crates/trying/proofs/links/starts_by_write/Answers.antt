@@ -1,7 +1,6 @@
 -- `trying::links::starts_by_write` meets its contract. Assumes nothing.
 use mathlib.Core.Logic.{inl, inr, ⊎_elim}
 use mathlib.Core.Path.{sym, ◌∙◌}
-use borrow.Author.Rules.{rules}
 use Rattle.views.proofs.Words.{meets-yes, meets-no, meets-is}
 use Rattle.trying.specs.Recorded.{readers_at}
 use Rattle.trying.proofs.links.starts_by_write.Goals as goal

@@ -1,13 +1,8 @@
 -- `trying::links::tries` meets its contract. The loop's invariant: of the commits tried, those with a link are in the set. Assumes nothing.
 use Prim.Native.Nat.{◌-◌, ◌≤◌, ◌<◌}
-use mathlib.Core.Path.{◌≡◌}
-use native.Mathlib.Omega.{arith}
-use borrow.Author.Rules.{rules}
-use Rattle.search.proofs.Tests.{both}
 use Rattle.state.specs.Keeps.{IsSet}
 use Rattle.trying.specs.Tries.{LinksTo}
 use Rattle.trying.specs.Recorded.{StoredIn, recorded}
-use Rattle.trying.proofs.Linked.{links-is, tried-none, tried-more}
 use Rattle.trying.proofs.links.tries.Given as goal
 
 abbrev pub invariant-loop-a : goal.invariant-loop-a

@@ -1,5 +1,4 @@
 -- `trying::links::up_to` meets its contract. Assumes nothing.
-use borrow.Author.Rules.{rules}
 use Rattle.trying.specs.Recorded.{recorded}
 use Rattle.trying.proofs.Linked.{up-to-is}
 use Rattle.trying.proofs.links.up_to.Goals as goal

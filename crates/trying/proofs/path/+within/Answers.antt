@@ -1,5 +1,5 @@
 -- `trying::path::within` meets its contract: nobody is within no links, and one link more is one round more. Assumes nothing.
-use Rattle.std.proofs.Common.{◌≡◌, ℕ, T, refl, sym, subst, arith}
+use Rattle.std.proofs.Common.{◌≡◌, ℕ, T, refl, sym, subst}
 use Rattle.sets.specs.Set.{has}
 use Rattle.relations.specs.Within.{Within}
 use Rattle.state.specs.Keeps.{IsSet}

@@ -1,5 +1,4 @@
 -- `trying::path::round` meets its contract. Assumes nothing.
-use borrow.Author.Rules.{rules}
 use Rattle.trying.specs.Recorded.{recorded}
 use Rattle.trying.proofs.Stepped.{round_is}
 use Rattle.trying.proofs.path.round.Goals as goal

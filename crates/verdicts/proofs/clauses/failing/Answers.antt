@@ -1,6 +1,5 @@
 -- `verdicts::clauses::failing` meets its contract. Assumes nothing.
 use mathlib.Core.Path.{refl}
-use borrow.Author.Rules.{rules}
 use Rattle.verdicts.proofs.ByClause.{failing-is}
 use Rattle.verdicts.proofs.clauses.failing.Goals as goal
 

@@ -1,7 +1,6 @@
 -- `verdicts::clauses::found` meets its contract. Assumes nothing.
 use mathlib.Core.Path.{refl, sym, ap, ◌∙◌}
 use native.Mathlib.Omega.{arith}
-use borrow.Author.Rules.{rules}
 use Rattle.search.proofs.Tests.{some-none}
 use Rattle.state.specs.Answers.{place_of}
 use Rattle.verdicts.proofs.clauses.found.Goals as goal

@@ -1,6 +1,5 @@
 -- `verdicts::clauses::leads` meets its contract. Assumes nothing.
 use mathlib.Core.Logic.{⊎_elim}
-use borrow.Author.Rules.{rules}
 use Rattle.verdicts.proofs.Asked.{not-asked}
 use Rattle.verdicts.proofs.clauses.leads.Goals as goal
 

@@ -1,7 +1,6 @@
 -- `verdicts::clauses::past` meets its contract. Assumes nothing.
 use mathlib.Core.Path.{refl}
 use mathlib.Core.Logic.{inl, inr, ⊎_elim}
-use borrow.Author.Rules.{rules}
 use Rattle.verdicts.proofs.Asked.{not-asked}
 use Rattle.verdicts.proofs.clauses.past.Goals as goal
 

@@ -2,7 +2,6 @@
 use mathlib.Core.Path.{◌≡◌}
 use mathlib.Core.Logic.{inl, inr, ⊎_elim}
 use native.Mathlib.Omega.{arith}
-use borrow.Author.Rules.{rules}
 use Rattle.dependencies.specs.History.{Holds}
 use Rattle.store.specs.Store.{Store, View}
 use Rattle.store.specs.Sound.{SoundStore}

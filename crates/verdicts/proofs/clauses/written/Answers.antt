@@ -1,5 +1,4 @@
 -- `verdicts::clauses::written` meets its contract. Assumes nothing.
-use borrow.Author.Rules.{rules}
 use Rattle.verdicts.proofs.Asked.{not-asked}
 use Rattle.verdicts.proofs.clauses.written.Goals as goal
 

@@ -1,18 +1,16 @@
 -- `verdicts::report::judge` meets its contract. Assumes nothing.
-use mathlib.Core.Path.{◌≡◌, refl, ap, sym, ◌∙◌}
+use mathlib.Core.Path.{◌≡◌, refl, ap, ◌∙◌}
 use mathlib.Core.Bool.{not}
 use mathlib.Core.List.{List}
-use mathlib.Core.Logic.{⊎_elim}
 use Prim.Native.Nat.{ℕ}
-use native.Mathlib.Omega.{arith}
 use borrow.Author.Rules.{rules}
 use Rattle.store.specs.Store.{Store, View, Commit}
 use Rattle.store.specs.Missing.{missing}
 use Rattle.store.specs.Refusal.{all_of}
 use Rattle.state.specs.Answers.{place_of}
 use Rattle.sets.specs.Set.{union, without}
-use Rattle.verdicts.specs.AtHand.{AtHand, Judging, AfterCommit}
-use Rattle.verdicts.proofs.Judged.{plain-lost, keys-are, at-hand, judging, nothing-asked, no-clause-fails}
+use Rattle.verdicts.specs.AtHand.{Judging, AfterCommit}
+use Rattle.verdicts.proofs.Judged.{plain-lost, keys-are, judging, nothing-asked, no-clause-fails}
 use Rattle.verdicts.proofs.report.judge.Goals as goal
 use Rattle.verdicts.proofs.report.judge.Goals.{After-failing-failing, then-not-plain, else-not-plain}
 

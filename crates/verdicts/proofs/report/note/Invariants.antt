@@ -1,12 +1,11 @@
 -- `verdicts::report::note` meets its contract. The loop's invariant: the levels before this one have been noted. Assumes nothing.
 use Prim.Native.Nat.{ℕ, ◌-◌, ◌≤◌}
 use mathlib.Core.List.{List}
-use borrow.Author.Rules.{rules}
 use Rattle.store.specs.Store.{Store, View, Commit}
 use Rattle.levels.specs.Level.{clauses_of, fails_clauses}
 use Rattle.verdicts.specs.AtHand.{Judging}
 use Rattle.verdicts.specs.Verdicts.{level_count, level_at, VerdictsRoom, Live, FailingClauses}
-use Rattle.verdicts.proofs.Noted.{Noted, noted-none, noted-on, live_on, noted-all}
+use Rattle.verdicts.proofs.Noted.{Noted}
 use Rattle.verdicts.proofs.report.note.Given as goal
 
 abbrev pub invariant-loop-level : goal.invariant-loop-level

@@ -1,7 +1,6 @@
 -- `verdicts::report::write_down` meets its contract. Assumes nothing.
 use native.Mathlib.Omega.{arith}
 use lib.ListN.{length-set}
-use borrow.Author.Rules.{rules}
 use Rattle.verdicts.specs.Verdicts.{written_down}
 use Rattle.verdicts.proofs.report.write_down.Goals as goal
 

@@ -1,19 +1,15 @@
 -- `verdicts::sources::written` meets its contract. The loop's invariant: the writers of the keys below some k that are written are gathered,
 -- and the keys from k on that are written are left. Assumes nothing.
-use Prim.Native.Nat.{ℕ, ◌+◌, ◌/◌, ◌≤◌, ◌<◌}
+use Prim.Native.Nat.{ℕ, ◌+◌, ◌/◌, ◌<◌}
 use mathlib.Core.Path.{ap}
 use mathlib.Core.List.{List}
 use lib.ListN.{get_or}
 use native.Mathlib.Omega.{arith}
-use borrow.Author.Rules.{rules}
 use Rattle.sets.specs.Set.{Set}
 use Rattle.store.specs.Store.{Key}
 use Rattle.state.specs.Places.{writers_place}
-use Rattle.state.specs.Accesses.{Left}
-use Rattle.state.specs.Keeps.{IsSet}
 use Rattle.state.proofs.Accesses.{next-key, left-rest, left-none}
 use Rattle.state.proofs.Below.{RowWith, from-none, keys-turn, keys-passed}
-use Rattle.verdicts.specs.Sources.{InKeys}
 use Rattle.verdicts.proofs.sources.written.Goals as goal
 
 -- the writers of each key

@@ -1,5 +1,4 @@
 -- `verdicts::table::clauses_of` meets its contract. Assumes nothing.
-use borrow.Author.Rules.{rules}
 use Rattle.verdicts.proofs.TableOfLevels.{table-entry}
 use Rattle.verdicts.proofs.table.clauses_of.Goals as goal
 

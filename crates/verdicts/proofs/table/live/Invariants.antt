@@ -1,10 +1,7 @@
 -- `verdicts::table::live` meets its contract. The loop's invariant: the set has the clauses of the levels before this one that have not failed. Assumes nothing.
 use Prim.Native.Nat.{◌-◌, ◌≤◌}
-use mathlib.Core.Logic.{⊎_elim}
-use native.Mathlib.Omega.{arith}
-use borrow.Author.Rules.{rules}
 use Rattle.verdicts.specs.Verdicts.{level_count}
-use Rattle.verdicts.proofs.Asked.{LiveBelow, live-take, live-skip, live_all}
+use Rattle.verdicts.proofs.Asked.{LiveBelow}
 use Rattle.verdicts.proofs.table.live.Given as goal
 
 abbrev pub invariant-loop-level : goal.invariant-loop-level

@@ -1,5 +1,4 @@
 -- `verdicts::told::verdict_at` meets its contract. Assumes nothing.
-use borrow.Author.Rules.{rules}
 use Rattle.verdicts.proofs.Words.{told-accepted, told-refused}
 use Rattle.verdicts.proofs.told.verdict_at.Goals as goal
 

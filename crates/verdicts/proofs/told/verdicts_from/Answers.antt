@@ -1,6 +1,5 @@
 -- `verdicts::told::verdicts_from` meets its contract. Assumes nothing.
 use native.Mathlib.Omega.{arith}
-use borrow.Author.Rules.{rules}
 use Rattle.levels.specs.Level.{MR, MW, RYW, WFR, CC, UA, PSI, CP, SI, SER}
 use Rattle.verdicts.proofs.Words.{ten-same}
 use Rattle.verdicts.proofs.told.verdicts_from.Goals as goal

@@ -1,5 +1,4 @@
 -- `views::apart::beyond` meets its contract. Assumes nothing.
-use Rattle.std.proofs.Common.{rules}
 use Rattle.views.proofs.Parted.{subtracted-views, parted-none}
 use Rattle.views.proofs.apart.beyond.Goals as goal
 

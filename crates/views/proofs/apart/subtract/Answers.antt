@@ -1,6 +1,5 @@
 -- `views::apart::subtract` meets its contract. The loop's invariant: the words of the keys passed are the differences. Assumes nothing.
-use Rattle.std.proofs.Common.{◌≡◌, ◌-◌, ◌≤◌, arith, rules}
-use Rattle.views.specs.Parted.{Subtracted}
+use Rattle.std.proofs.Common.{◌≡◌, arith}
 use Rattle.views.proofs.Parted.{subtracted-none, subtracted-more}
 use Rattle.views.proofs.apart.subtract.Goals as goal
 

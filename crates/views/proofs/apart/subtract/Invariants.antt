@@ -1,7 +1,6 @@
 -- `views::apart::subtract` meets its contract. The loop's invariant: the words of the keys passed are the differences. Assumes nothing.
-use Rattle.std.proofs.Common.{◌≡◌, ◌-◌, ◌≤◌, arith, rules}
+use Rattle.std.proofs.Common.{◌-◌, ◌≤◌}
 use Rattle.views.specs.Parted.{Subtracted}
-use Rattle.views.proofs.Parted.{subtracted-none, subtracted-more}
 use Rattle.views.proofs.apart.subtract.Given as goal
 
 abbrev pub invariant-loop-k : goal.invariant-loop-k

@@ -1,9 +1,5 @@
 -- `views::apart::take_all` meets its contract. The loop's invariant: the commits with a version of a key passed are found. Assumes nothing.
-use Rattle.std.proofs.Common.{◌≡◌, ℕ, ◌-◌, ◌<◌, ◌≤◌, length, arith, rules, below_more}
-use Rattle.store.specs.Limits.{max_keys}
-use Rattle.store.specs.Store.{View, Store}
-use Rattle.state.specs.Rows.{RowAt}
-use Rattle.views.specs.Parted.{Versions, Parting, PartedAt}
+use Rattle.std.proofs.Common.{arith, below_more}
 use Rattle.views.proofs.Parted.{parting-none, parting-all}
 use Rattle.views.proofs.apart.take_all.Goals as goal
 

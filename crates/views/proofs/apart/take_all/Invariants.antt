@@ -1,10 +1,9 @@
 -- `views::apart::take_all` meets its contract. The loop's invariant: the commits with a version of a key passed are found. Assumes nothing.
-use Rattle.std.proofs.Common.{◌≡◌, ℕ, ◌-◌, ◌<◌, ◌≤◌, length, arith, rules, below_more}
+use Rattle.std.proofs.Common.{◌≡◌, ℕ, ◌-◌, ◌<◌, ◌≤◌, length}
 use Rattle.store.specs.Limits.{max_keys}
 use Rattle.store.specs.Store.{View, Store}
 use Rattle.state.specs.Rows.{RowAt}
 use Rattle.views.specs.Parted.{Versions, Parting, PartedAt}
-use Rattle.views.proofs.Parted.{parting-none, parting-all}
 use Rattle.views.proofs.apart.take_all.Given as goal
 
 abbrev pub invariant-loop-k : goal.invariant-loop-k

@@ -1,11 +1,7 @@
 -- `views::apart::take_key` meets its contract. The loop's invariant: the commits found are taken, and what is met is what is left of the key. Assumes nothing.
-use Rattle.std.proofs.Common.{◌≡◌, ℕ, ◌^◌, ◌<◌, T, ◌↔◌, length, get_or, refl, ◌∙◌, arith, rules}
+use Rattle.std.proofs.Common.{ℕ, ◌^◌, ◌<◌, refl, ◌∙◌, arith}
 use lib.Bits.{bit_and, and_le_r}
-use Rattle.sets.specs.Set.{has}
 use Rattle.sets.proofs.Laws.{has-insert}
-use Rattle.store.specs.Limits.{max_keys}
-use Rattle.store.specs.Store.{View, Store}
-use Rattle.views.specs.Parted.{Versions, Parting}
 use Rattle.views.proofs.Parted.{key-parted, parting-whole, parting-half, met-more}
 use Rattle.views.proofs.apart.take_key.Goals as goal
 use Rattle.views.proofs.apart.take_key.Goals.{then-lacks-ne0, else-lacks-ne0}

@@ -1,8 +1,6 @@
 -- `views::apart::take_row` meets its contract. The loop's invariant: the row is taken out at the keys passed, and what is lacking there is gathered. Assumes nothing.
-use Rattle.std.proofs.Common.{◌≡◌, ◌+◌, ◌-◌, ◌≤◌, length, arith, length-set, rules}
-use Rattle.store.specs.Limits.{max_keys}
-use Rattle.state.specs.Places.{versions_length}
-use Rattle.views.proofs.Parted.{RowPassed, row-none, row_more, row-whole}
+use Rattle.std.proofs.Common.{arith, length-set}
+use Rattle.views.proofs.Parted.{row-none, row_more, row-whole}
 use Rattle.views.proofs.apart.take_row.Goals as goal
 
 pub loop-k-init : goal.loop-k-init

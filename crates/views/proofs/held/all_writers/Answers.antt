@@ -1,8 +1,7 @@
 -- `views::held::all_writers` meets its contract. The loop's invariant: the set has the commits that wrote one of the keys passed. Assumes nothing.
-use Rattle.std.proofs.Common.{◌≡◌, ◌-◌, ◌≤◌, arith, rules}
-use Rattle.state.specs.Keeps.{IsSet}
+use Rattle.std.proofs.Common.{◌≡◌, arith}
 use Rattle.state.proofs.Below.{from-none, key_more}
-use Rattle.views.specs.Writing.{WriterAt, WriterBelow}
+use Rattle.views.specs.Writing.{WriterAt}
 use Rattle.views.proofs.held.all_writers.Goals as goal
 
 pub loop-k-init : goal.loop-k-init

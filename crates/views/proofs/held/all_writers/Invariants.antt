@@ -1,8 +1,7 @@
 -- `views::held::all_writers` meets its contract. The loop's invariant: the set has the commits that wrote one of the keys passed. Assumes nothing.
-use Rattle.std.proofs.Common.{◌≡◌, ◌-◌, ◌≤◌, arith, rules}
+use Rattle.std.proofs.Common.{◌-◌, ◌≤◌}
 use Rattle.state.specs.Keeps.{IsSet}
-use Rattle.state.proofs.Below.{from-none, key_more}
-use Rattle.views.specs.Writing.{WriterAt, WriterBelow}
+use Rattle.views.specs.Writing.{WriterBelow}
 use Rattle.views.proofs.held.all_writers.Given as goal
 
 abbrev pub invariant-loop-k : goal.invariant-loop-k

@@ -1,5 +1,5 @@
 -- `views::held::viewed` meets its contract. Assumes nothing.
-use Rattle.std.proofs.Common.{sym, ap, ◌∙◌, rules}
+use Rattle.std.proofs.Common.{sym, ap, ◌∙◌}
 use Rattle.state.specs.Answers.{place_of}
 use Rattle.views.proofs.Rows.{masks-row}
 use Rattle.views.proofs.Downward.{apart-not-half}

@@ -1,7 +1,6 @@
 -- `views::masks::adds_own` meets its contract. The loop's invariant: no difference is noted exactly where the masks of the keys passed are right. Assumes nothing.
-use Rattle.std.proofs.Common.{◌≡◌, ◌+◌, ◌-◌, ◌≤◌, ◌↔◌, arith, rules}
-use Rattle.state.specs.Places.{versions_length}
-use Rattle.views.proofs.AddsOwn.{OwnBelow, own-none, own-more, adds-own-answer}
+use Rattle.std.proofs.Common.{arith}
+use Rattle.views.proofs.AddsOwn.{own-none, own-more, adds-own-answer}
 use Rattle.views.proofs.masks.adds_own.Goals as goal
 
 pub loop-k-init : goal.loop-k-init

@@ -1,7 +1,7 @@
 -- `views::masks::adds_own` meets its contract. The loop's invariant: no difference is noted exactly where the masks of the keys passed are right. Assumes nothing.
-use Rattle.std.proofs.Common.{◌≡◌, ◌+◌, ◌-◌, ◌≤◌, ◌↔◌, arith, rules}
+use Rattle.std.proofs.Common.{◌≡◌, ◌+◌, ◌-◌, ◌≤◌, ◌↔◌}
 use Rattle.state.specs.Places.{versions_length}
-use Rattle.views.proofs.AddsOwn.{OwnBelow, own-none, own-more, adds-own-answer}
+use Rattle.views.proofs.AddsOwn.{OwnBelow}
 use Rattle.views.proofs.masks.adds_own.Given as goal
 
 abbrev pub invariant-loop-k : goal.invariant-loop-k

@@ -1,7 +1,6 @@
 -- `views::masks::astray` meets its contract. The loop's invariant: where nothing is gathered, no key passed strays. Assumes nothing.
-use Rattle.std.proofs.Common.{◌≡◌, ℕ, ◌+◌, ◌-◌, ◌<◌, ◌≤◌, false, get_or, arith, rules}
+use Rattle.std.proofs.Common.{◌≡◌, ℕ, ◌+◌, ◌-◌, ◌<◌, ◌≤◌, false, get_or}
 use Rattle.views.specs.Strays.{strays}
-use Rattle.views.proofs.Tests.{none_more}
 use Rattle.views.proofs.masks.astray.Given as goal
 
 abbrev pub invariant-loop-k : goal.invariant-loop-k

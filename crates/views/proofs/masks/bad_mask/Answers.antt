@@ -1,9 +1,6 @@
 -- `views::masks::bad_mask` meets its contract. The loop's invariant: no key passed has a bad mask. Assumes nothing.
-use Rattle.std.proofs.Common.{◌≡◌, ℕ, ◌-◌, ◌<◌, ◌≤◌, T, sym, ◌∙◌, arith, rules, below_more}
+use Rattle.std.proofs.Common.{sym, ◌∙◌, arith, below_more}
 use Rattle.sets.proofs.Algebra.{subset-is}
-use Rattle.store.specs.Store.{View, Store}
-use Rattle.store.specs.Refusal.{bad_mask_at}
-use Rattle.state.specs.Keeps.{KeepsKeys, KeepsMasks}
 use Rattle.views.proofs.Tests.{taken, left as not_so}
 use Rattle.views.proofs.Codes.{lacks-first, holds-other, good-mask, bad-at, bad-nowhere}
 use Rattle.views.proofs.masks.bad_mask.Goals as goal

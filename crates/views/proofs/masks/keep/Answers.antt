@@ -1,6 +1,5 @@
 -- `views::masks::keep` meets its contract. The loop's invariant: the masks of the keys passed are copied. Assumes nothing.
-use Rattle.std.proofs.Common.{◌≡◌, ◌-◌, ◌≤◌, arith, rules}
-use Rattle.views.specs.Rows.{Kept}
+use Rattle.std.proofs.Common.{◌≡◌, arith}
 use Rattle.views.proofs.Rows.{kept_more}
 use Rattle.views.proofs.masks.keep.Goals as goal
 

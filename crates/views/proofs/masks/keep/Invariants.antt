@@ -1,7 +1,6 @@
 -- `views::masks::keep` meets its contract. The loop's invariant: the masks of the keys passed are copied. Assumes nothing.
-use Rattle.std.proofs.Common.{◌≡◌, ◌-◌, ◌≤◌, arith, rules}
+use Rattle.std.proofs.Common.{◌-◌, ◌≤◌}
 use Rattle.views.specs.Rows.{Kept}
-use Rattle.views.proofs.Rows.{kept_more}
 use Rattle.views.proofs.masks.keep.Given as goal
 
 abbrev pub invariant-loop-k : goal.invariant-loop-k

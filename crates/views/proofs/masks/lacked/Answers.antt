@@ -1,5 +1,5 @@
 -- `views::masks::lacked` meets its contract. The loop's invariant: where nothing is gathered, nothing of the view is lacking at the keys passed. Assumes nothing.
-use Rattle.std.proofs.Common.{◌≡◌, ℕ, ◌+◌, ◌-◌, ◌<◌, ◌≤◌, get_or, sym, ◌∙◌, arith, rules}
+use Rattle.std.proofs.Common.{◌≡◌, ◌+◌, get_or, sym, ◌∙◌, arith}
 use Rattle.sets.specs.Set.{without}
 use Rattle.views.proofs.Tests.{none_more}
 use Rattle.views.proofs.masks.lacked.Goals as goal

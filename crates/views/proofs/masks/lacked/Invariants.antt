@@ -1,7 +1,6 @@
 -- `views::masks::lacked` meets its contract. The loop's invariant: where nothing is gathered, nothing of the view is lacking at the keys passed. Assumes nothing.
-use Rattle.std.proofs.Common.{◌≡◌, ℕ, ◌+◌, ◌-◌, ◌<◌, ◌≤◌, get_or, sym, ◌∙◌, arith, rules}
+use Rattle.std.proofs.Common.{◌≡◌, ℕ, ◌+◌, ◌-◌, ◌<◌, ◌≤◌, get_or}
 use Rattle.sets.specs.Set.{without}
-use Rattle.views.proofs.Tests.{none_more}
 use Rattle.views.proofs.masks.lacked.Given as goal
 
 abbrev pub invariant-loop-k : goal.invariant-loop-k

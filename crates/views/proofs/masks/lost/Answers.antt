@@ -1,11 +1,6 @@
 -- `views::masks::lost` meets its contract. The loop's invariant: at the keys passed nothing of the view is lacking. Assumes nothing.
-use Rattle.std.proofs.Common.{◌≡◌, ℕ, ◌-◌, ◌<◌, ◌≤◌, refl, arith, rules, below_more}
-use Rattle.store.specs.Store.{View, Store}
+use Rattle.std.proofs.Common.{refl, arith, below_more}
 use Rattle.store.specs.Refusal.{all_of}
-use Rattle.store.specs.View.{IsView}
-use Rattle.store.proofs.Missing.{MetAt}
-use Rattle.state.specs.Keeps.{KeepsMasks}
-use Rattle.state.specs.Rows.{RowAt}
 use Rattle.views.proofs.Looking.{lost-wanted, looking-lost, looking-done, looking-found, missing-nowhere}
 use Rattle.views.proofs.masks.lost.Goals as goal
 

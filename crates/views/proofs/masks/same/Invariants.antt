@@ -1,7 +1,5 @@
 -- `views::masks::same` meets its contract. The loop's invariant: nothing is gathered exactly where the masks are the same at the keys passed. Assumes nothing.
-use Rattle.std.proofs.Common.{◌≡◌, ℕ, ◌+◌, ◌-◌, ◌<◌, ◌≤◌, ◌↔◌, get_or, refl, arith, rules}
-use Rattle.search.proofs.Tests.{eq_is}
-use Rattle.views.proofs.Tests.{none_more, xor-zero, union-zero}
+use Rattle.std.proofs.Common.{◌≡◌, ℕ, ◌+◌, ◌-◌, ◌<◌, ◌≤◌, ◌↔◌, get_or}
 use Rattle.views.proofs.masks.same.Given as goal
 
 abbrev pub invariant-loop-k : goal.invariant-loop-k

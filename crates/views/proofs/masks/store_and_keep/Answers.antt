@@ -1,6 +1,5 @@
 -- `views::masks::store_and_keep` meets its contract. The loop's invariant: the masks of the keys passed are stored, and copied over. Assumes nothing.
-use Rattle.std.proofs.Common.{◌-◌, ◌≤◌, arith, length-set, rules}
-use Rattle.views.specs.Rows.{Moved}
+use Rattle.std.proofs.Common.{arith, length-set}
 use Rattle.views.proofs.Rows.{moved_more, moved-whole}
 use Rattle.views.proofs.masks.store_and_keep.Goals as goal
 

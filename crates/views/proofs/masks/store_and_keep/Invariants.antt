@@ -1,7 +1,6 @@
 -- `views::masks::store_and_keep` meets its contract. The loop's invariant: the masks of the keys passed are stored, and copied over. Assumes nothing.
-use Rattle.std.proofs.Common.{◌-◌, ◌≤◌, arith, length-set, rules}
+use Rattle.std.proofs.Common.{◌-◌, ◌≤◌}
 use Rattle.views.specs.Rows.{Moved}
-use Rattle.views.proofs.Rows.{moved_more, moved-whole}
 use Rattle.views.proofs.masks.store_and_keep.Given as goal
 
 abbrev pub invariant-loop-k : goal.invariant-loop-k

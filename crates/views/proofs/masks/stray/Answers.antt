@@ -1,9 +1,5 @@
 -- `views::masks::stray` meets its contract. The loop's invariant: no key passed strays. Assumes nothing.
-use Rattle.std.proofs.Common.{◌≡◌, ℕ, ◌-◌, ◌<◌, ◌≤◌, T, List, refl, arith, rules, below_more}
-use Rattle.store.specs.Store.{View, Store, Commit}
-use Rattle.store.specs.Refusal.{stray_at}
-use Rattle.state.specs.Keeps.{KeepsMasks, KeepsOperations}
-use Rattle.state.specs.Rows.{RowAt}
+use Rattle.std.proofs.Common.{refl, arith, below_more}
 use Rattle.views.proofs.Codes.{stray-yes, stray-no, stray-at, stray-nowhere}
 use Rattle.views.proofs.masks.stray.Goals as goal
 

@@ -1,10 +1,9 @@
 -- `views::masks::stray` meets its contract. The loop's invariant: no key passed strays. Assumes nothing.
-use Rattle.std.proofs.Common.{◌≡◌, ℕ, ◌-◌, ◌<◌, ◌≤◌, T, List, refl, arith, rules, below_more}
+use Rattle.std.proofs.Common.{◌≡◌, ℕ, ◌-◌, ◌<◌, ◌≤◌, T, List}
 use Rattle.store.specs.Store.{View, Store, Commit}
 use Rattle.store.specs.Refusal.{stray_at}
 use Rattle.state.specs.Keeps.{KeepsMasks, KeepsOperations}
 use Rattle.state.specs.Rows.{RowAt}
-use Rattle.views.proofs.Codes.{stray-yes, stray-no, stray-at, stray-nowhere}
 use Rattle.views.proofs.masks.stray.Given as goal
 
 abbrev pub invariant-loop-k : goal.invariant-loop-k

@@ -1,5 +1,4 @@
 -- `views::masks::strayed` meets its contract. Assumes nothing.
-use Rattle.std.proofs.Common.{rules}
 use Rattle.views.proofs.Codes.{strays-same, strays-read, strays-written}
 use Rattle.views.proofs.Tests.{xor-zero}
 use Rattle.views.proofs.masks.strayed.Goals as goal

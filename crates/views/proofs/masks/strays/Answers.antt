@@ -1,5 +1,4 @@
 -- `views::masks::strays` meets its contract. Assumes nothing.
-use Rattle.std.proofs.Common.{rules}
 use Rattle.views.proofs.Codes.{strays-same, strays-read, strays-unread}
 use Rattle.views.proofs.masks.strays.Goals as goal
 

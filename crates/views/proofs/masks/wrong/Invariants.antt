@@ -1,7 +1,6 @@
 -- `views::masks::wrong` meets its contract. The loop's invariant: where nothing is gathered, the masks of the keys passed are right. Assumes nothing.
-use Rattle.std.proofs.Common.{◌≡◌, ℕ, ◌-◌, ◌<◌, ◌≤◌, get_or, sym, ◌∙◌, arith, rules}
+use Rattle.std.proofs.Common.{◌≡◌, ℕ, ◌-◌, ◌<◌, ◌≤◌, get_or}
 use Rattle.sets.specs.Set.{without}
-use Rattle.views.proofs.Tests.{none_more, both_zero}
 use Rattle.views.proofs.masks.wrong.Given as goal
 
 abbrev pub invariant-loop-k : goal.invariant-loop-k

@@ -1,16 +1,12 @@
 -- `views::missing::least_absent` meets its contract. The loop's invariant: nothing is missing at the keys passed. Assumes nothing.
-use Rattle.std.proofs.Common.{◌≡◌, ℕ, ◌-◌, ◌<◌, ◌≤◌, T, List, sym, subst, ⊎_elim, arith, rules, below_more}
+use Rattle.std.proofs.Common.{◌≡◌, ℕ, ◌-◌, ◌<◌, ◌≤◌, List}
 use Rattle.store.specs.Store.{View, Store, Commit}
 use Rattle.store.specs.Update.{update}
 use Rattle.store.proofs.Missing.{MetAt}
 use Rattle.growth.specs.Made.{Made}
-use Rattle.growth.proofs.Made.{keys-after}
 use Rattle.state.specs.Keeps.{KeepsKeys, KeepsOperations}
 use Rattle.state.specs.Rows.{RowAt}
-use Rattle.state.proofs.Ranks.{writes-rank}
 use Rattle.views.specs.Rules.{of_written}
-use Rattle.views.proofs.Tests.{taken, left as not_so}
-use Rattle.views.proofs.Looking.{looking-all, looking-done, looking-found, half-before, missing-nowhere}
 use Rattle.views.proofs.missing.least_absent.Given as goal
 
 abbrev pub invariant-loop-k : goal.invariant-loop-k

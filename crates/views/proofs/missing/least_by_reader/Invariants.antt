@@ -1,13 +1,10 @@
 -- `views::missing::least_by_reader` meets its contract. The invariants are those of `least_by_writer`, by another rule. Assumes nothing.
-use Rattle.std.proofs.Common.{◌≡◌, ℕ, ◌-◌, ◌<◌, ◌≤◌, refl, ap, ◌∙◌, arith, rules, below_more}
+use Rattle.std.proofs.Common.{◌≡◌, ℕ, ◌-◌, ◌<◌, ◌≤◌}
 use Rattle.store.specs.Store.{View, Store}
 use Rattle.store.proofs.Missing.{MetAt}
-use Rattle.state.specs.Answers.{place_of}
 use Rattle.state.specs.declared.Found.TheVariants.{Nothing}
 use Rattle.views.specs.Rules.{StoreAndView, by_reader}
-use Rattle.views.proofs.Words.{read_by, unread-by}
-use Rattle.views.proofs.Looking.{Looking, looking-all, looking-on, looking-done, looking-found, missing-nowhere}
-use Rattle.views.proofs.Tests.{taken}
+use Rattle.views.proofs.Looking.{Looking}
 use Rattle.views.proofs.missing.least_by_reader.Given as goal
 
 abbrev pub invariant-loop-left : goal.invariant-loop-left

@@ -1,13 +1,9 @@
 -- `views::missing::least_by_writer` meets its contract. The outer loop's invariant: nothing is missing at the keys passed; the inner one's: each version that is
 -- wanted and lacking at the key is among those that are left. Assumes nothing.
-use Rattle.std.proofs.Common.{◌≡◌, ℕ, ◌-◌, ◌<◌, ◌≤◌, refl, ap, ◌∙◌, arith, rules, below_more}
-use Rattle.store.specs.Store.{View, Store}
-use Rattle.store.proofs.Missing.{MetAt}
+use Rattle.std.proofs.Common.{refl, ap, ◌∙◌, arith, below_more}
 use Rattle.state.specs.Answers.{place_of}
-use Rattle.state.specs.declared.Found.TheVariants.{Nothing}
-use Rattle.views.specs.Rules.{StoreAndView, by_writer}
 use Rattle.views.proofs.Words.{written-by}
-use Rattle.views.proofs.Looking.{Looking, looking-all, looking-on, looking-done, looking-found, missing-nowhere}
+use Rattle.views.proofs.Looking.{looking-all, looking-on, looking-done, looking-found, missing-nowhere}
 use Rattle.views.proofs.Tests.{taken, left as not_so}
 use Rattle.views.proofs.missing.least_by_writer.Goals as goal
 

@@ -1,5 +1,5 @@
 -- `views::prefix::gaps` meets its contract. Assumes nothing.
-use Rattle.std.proofs.Common.{sym, ap, ◌∙◌, rules}
+use Rattle.std.proofs.Common.{sym, ap, ◌∙◌}
 use lib.Bits.{bit_and}
 use Rattle.views.proofs.Downward.{downward}
 use Rattle.views.proofs.prefix.gaps.Goals as goal

@@ -1,8 +1,6 @@
 -- `views::prefix::prefixes` meets its contract. Where no gap was found so far, the masks passed have none. Assumes nothing.
-use Rattle.std.proofs.Common.{◌≡◌, ℕ, ◌-◌, ◌<◌, ◌≤◌, get_or, arith, rules}
+use Rattle.std.proofs.Common.{◌≡◌, ℕ, ◌-◌, ◌<◌, ◌≤◌, get_or}
 use Rattle.views.specs.Prefix.{Downward}
-use Rattle.views.proofs.Downward.{no_gaps}
-use Rattle.views.proofs.Tests.{none_more}
 use Rattle.views.proofs.prefix.prefixes.Given as goal
 
 abbrev pub invariant-loop-k : goal.invariant-loop-k

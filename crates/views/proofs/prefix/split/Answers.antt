@@ -1,12 +1,6 @@
 -- `views::prefix::split` meets its contract. The sets so far are those of the keys passed. Assumes nothing.
-use Rattle.std.proofs.Common.{◌≡◌, ℕ, ◌-◌, ◌≤◌, List, arith, rules}
-use mathlib.Core.Option.{none}
-use Rattle.store.specs.Store.{View, Store}
-use Rattle.store.specs.Refusal.{bad_mask}
-use Rattle.state.specs.Keeps.{IsSet}
-use Rattle.state.proofs.Below.{From, from-none, key_more}
-use Rattle.views.specs.Viewed.{NewMasks}
-use Rattle.views.specs.Prefix.{Prefixes}
+use Rattle.std.proofs.Common.{◌≡◌, arith}
+use Rattle.state.proofs.Below.{from-none, key_more}
 use Rattle.views.proofs.Downward.{HeldAt, LackedAt, later-is, held-is, held_all, lacked-all}
 use Rattle.views.proofs.prefix.split.Goals as goal
 

@@ -3,7 +3,6 @@ use mathlib.Core.Path.{sym, ap, ◌∙◌}
 use Rattle.endian.specs.Endian.{put_at}
 use Rattle.verdicts.specs.Told.{verdict_of}
 use Rattle.words.specs.Layout.{verdict_words}
-use borrow.Author.Rules.{rules}
 use Rattle.words.proofs.judged.put_verdict.Goals as goal
 
 pub returns-in-Accepted : goal.returns-in-Accepted

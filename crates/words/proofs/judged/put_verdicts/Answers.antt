@@ -1,7 +1,6 @@
 -- `words::judged::put_verdicts` meets its contract. Assumes nothing.
 use Rattle.verdicts.specs.Told.{verdict_of}
 use Rattle.words.proofs.PutWords.{ten-put}
-use borrow.Author.Rules.{rules}
 use Rattle.words.proofs.judged.put_verdicts.Goals as goal
 
 pub returns : goal.returns
