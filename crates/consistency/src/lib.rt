@@ -4,7 +4,7 @@
 // has a call of the same name for each of these, with the same promises.
 #![tactic(auto)]
 
-mod sessions; // sessions.rt: the close of a session, with the record by value
+mod closing; // closing.rt: the close of a session, with the record by value
 
 ghost use Rattle.std.specs.Prelude.{◌≡◌, List, [], ◌++◌, ℕ, ◌≤◌, ◌<◌, length};
 ghost use Rattle.endian.specs.Endian.{put_at};
@@ -225,7 +225,7 @@ pub fn close_session(session: &mut Session, kept: &[u8], image: &mut [u8], out: 
     ensures joined { JudgesJoined session.old kept.now image.old }
     ensures refused { RefusalKeepsImage session.old kept.now image.old }
 {
-    let step = sessions::in_words(*session, kept, image, out);
+    let step = closing::in_words(*session, kept, image, out);
     *session = step.session;
     step.code
 }
@@ -249,7 +249,7 @@ pub fn report_session(
     ensures joined { JudgesJoined session.old kept.now image.old }
     ensures refused { RefusalKeepsImage session.old kept.now image.old }
 {
-    let end = sessions::as_text(*session, kept, image, text);
+    let end = closing::as_text(*session, kept, image, text);
     *session = end.session;
     end.length
 }

@@ -1,4 +1,4 @@
--- `consistency::sessions::in_words` meets its contract: the words are those of the answer of the close. Assumes nothing.
+-- `consistency::closing::in_words` meets its contract: the words are those of the answer of the close. Assumes nothing.
 use mathlib.Core.Path.{refl}
 use native.Mathlib.Omega.{arith}
 use Rattle.endian.specs.Endian.{Bytes}
@@ -6,7 +6,7 @@ use Rattle.pieces.proofs.Judged.{judges-joined, refusal-keeps-image}
 use Rattle.words.specs.Layout.{judged_words}
 use Rattle.words.proofs.PutWords.{told-words}
 use borrow.Author.Rules.{rules}
-use Rattle.consistency.proofs.sessions.in_words.Goals as goal
+use Rattle.consistency.proofs.closing.in_words.Goals as goal
 
 pub returns-then-out-lt-ANSWER : goal.returns-then-out-lt-ANSWER
 returns-then-out-lt-ANSWER c =

@@ -1,10 +1,10 @@
--- `consistency::sessions::as_text` meets its contract: what it writes is the text of what the close answers. Assumes nothing.
+-- `consistency::closing::as_text` meets its contract: what it writes is the text of what the close answers. Assumes nothing.
 use mathlib.Core.Path.{refl}
 use native.Mathlib.Omega.{arith}
 use Rattle.endian.specs.Endian.{Bytes}
 use Rattle.pieces.proofs.Judged.{judges-joined, refusal-keeps-image}
 use borrow.Author.Rules.{rules}
-use Rattle.consistency.proofs.sessions.as_text.Goals as goal
+use Rattle.consistency.proofs.closing.as_text.Goals as goal
 
 pub returns-then-text-lt-LONGEST : goal.returns-then-text-lt-LONGEST
 returns-then-text-lt-LONGEST c =
