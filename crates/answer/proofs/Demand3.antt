@@ -19,7 +19,7 @@ use Rattle.answer.specs.Demand3.{Demand3}
 use Rattle.answer.proofs.Taken.{Taken}
 use Rattle.answer.proofs.Orders.{si-psi, si-cp, psi-cc, cp-cc, cc-mr, cc-mw, cc-ryw, cc-wfr, earliest-si}
 use Rattle.answer.proofs.Rings.{si-rings, ser-rings}
-use Rattle.answer.proofs.ReplayFile.{ser-replay}
+use Rattle.answer.proofs.ReplayTaken.{ser-replay}
 use Rattle.answer.proofs.SerialRun.{ser-serial}
 
 -- a trace that is taken has been read from its bytes, and none of codes 9 to 14 is due

@@ -8,6 +8,7 @@ pub mod OwnWrites
 pub mod FullView
 pub mod Replayed
 pub mod ReplayFile
+pub mod ReplayTaken
 pub mod Values
 pub mod SerialRun
 pub mod Demand3

@@ -30,17 +30,9 @@ module _ (b : List ℕ) (bad : well_shaped b ≡ false) where
   unfolding shown_for
   misshapen = sym (need-unmet (well_shaped b) (refused (refuse 20 0)) (taken (judge_bare (store_of b))) bad)
 
-  twenty-first : (room : ℕ) → shown_in b room ≡ refused (refuse 20 0)
+  pub twenty-first : (room : ℕ) → shown_in b room ≡ refused (refuse 20 0)
   unfolding shown_in on_taken
   twenty-first room = ap (λ (r : Result Shown). on_taken r (λ s. need (leb max_commits room) (refused (refuse 17 0)) (taken s))) misshapen
-
-  pub misshapen-answer : (room : ℕ) → refused (refuse 20 0) ≡ shown_answer b room
-  unfolding shown_answer on_taken
-  misshapen-answer room = sym (ap (λ (r : Result Shown). on_taken r (λ s. taken (shown_as s))) (twenty-first room))
-
-  pub misshapen-after : (buffer : List ℕ) → buffer ≡ shown_after b buffer
-  unfolding with_shown
-  misshapen-after buffer = sym (ap (λ (r : Result Shown). with_shown r buffer) (twenty-first (length buffer)))
 
 -- ---- it is not
 

@@ -1,3 +1,4 @@
 pub mod Answered
+pub mod Misshapen
 pub mod Written
 pub mod Claim

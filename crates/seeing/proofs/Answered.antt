@@ -16,7 +16,7 @@ use Rattle.store.specs.Reading.{image_commits, store_of}
 use Rattle.trace.specs.Result.{Result, refused, taken, on_taken}
 use Rattle.trace.specs.Format.{Trace}
 use Rattle.trace.proofs.Result.{refused-taken, taken-injective, on_taken-taken}
-use Rattle.answer.specs.Output.{Output, answer_in, buffer_after}
+use Rattle.answer.specs.Output.{Output, answer_in}
 use Rattle.answer.specs.Answer.{final_store, accept, Report, report, judged, answer, image_after}
 use Rattle.answer.specs.Recorded.{ImageSays}
 use Rattle.answer.proofs.Output.{Ends, ends-short, ends-written, answered-made, stands-written}
@@ -97,10 +97,6 @@ module _ (bytes : List ℕ) (room : ℕ) (table : List Set) where
   pub judge-first : (r : Refusal) → told_answer bytes room ≡ refused r → (most : ℕ) → visibility_answer bytes room most ≡ refused r
   unfolding visibility_answer answer_in reported on_taken
   judge-first r e most = rw e refl
-
-  pub refused-answer : (r : Refusal) → told_answer bytes room ≡ refused r → Answers bytes room table (refused r) table
-  unfolding reported on_taken buffer_after
-  refused-answer r e = record { said = sym (judge-first r e (length table)); left = rw e refl }
 
   module _ (j : Judged) (e : told_answer bytes room ≡ taken j) (t : Trace) (of : JudgedOf bytes room j t) where
     abbrev output : Output Judged

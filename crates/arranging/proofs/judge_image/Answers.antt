@@ -4,7 +4,8 @@ use mathlib.Core.Path.{sym, ap, ◌∙◌}
 use native.Mathlib.Omega.{arith}
 use Rattle.search.proofs.Tests.{true-T}
 use Rattle.trace.specs.Result.{refused, taken}
-use Rattle.arranging.proofs.Answered.{misshapen-answer, misshapen-after, short-answer, short-after, shaped-long, few-commits, rows-between, whole-answer, whole-after}
+use Rattle.arranging.proofs.Misshapen.{misshapen-answer, misshapen-after}
+use Rattle.arranging.proofs.Answered.{short-answer, short-after, shaped-long, few-commits, rows-between, whole-answer, whole-after}
 use Rattle.arranging.proofs.Claim.{image-claim}
 use Rattle.arranging.proofs.judge_image.Goals as goal
 

@@ -10,7 +10,8 @@ use Rattle.answer.specs.Answer.{final_store}
 use Rattle.verdicts.specs.Told.{verdicts_of}
 use Rattle.judging.specs.Answers.{Judged, told_answer, answer_of}
 use Rattle.visible.proofs.Claim.{visibility}
-use Rattle.seeing.proofs.Answered.{JudgedOf, judged-of, image-there, image-shaped, store_said, commits-said, refused-answer, short-answer, whole-answer}
+use Rattle.seeing.proofs.Answered.{JudgedOf, judged-of, image-there, image-shaped, store_said, commits-said, short-answer, whole-answer}
+use Rattle.seeing.proofs.Refused.{refused-answer}
 use Rattle.seeing.proofs.report.Goals as goal
 use Rattle.seeing.proofs.report.Goals.{In-Judged}
 
