@@ -17,9 +17,9 @@ use Rattle.trace.specs.Result.{Result, refused, taken, on_taken}
 use Rattle.trace.specs.Entry.{Entry}
 use Rattle.trace.specs.Format as Format
 use Rattle.trace.specs.Format.{misshapen, whole, record_at, commits_with, on_record, entries_from, header_at, within_limits, trace_of, decode}
-use Rattle.trace.specs.Meaning.{InFormAt, header_of, FormSays, AllRecordsSay, WholeFile, Headed}
+use Rattle.trace.specs.Meaning.{InFormAt, misshapen_at, header_of, FormSays, AllRecordsSay, WholeFile, Headed}
 use Rattle.trace.specs.declared.form.Header.{Header}
-use Rattle.trace.specs.declared.form.Form.TheVariants as Forms
+use Rattle.std.specs.Prelude.{Ok}
 use Rattle.trace.proofs.Result.{refused-taken, taken-injective, on_taken-taken}
 use Rattle.trace.proofs.Tests.{within_limits-is}
 
@@ -137,11 +137,11 @@ headed {s} {h} t =
 
 -- and what is said of the records is said of the file: a refusal, or that it is in form
 module _ {s : List ℕ} {h : Header} (t : Headed s h) where
-  pub records-misshapen : {code n : ℕ} → AllRecordsSay s h (Forms.Misshapen code n) → decode s ≡ refused (refuse code n)
+  pub records-misshapen : {code n : ℕ} → AllRecordsSay s h (misshapen_at code n) → decode s ≡ refused (refuse code n)
   unfolding FormSays on_taken
   records-misshapen e = t.by-records ∙ rw e refl
 
-  pub records-whole : AllRecordsSay s h (Forms.Whole h) → WholeFile s h
+  pub records-whole : AllRecordsSay s h (Ok h) → WholeFile s h
   unfolding FormSays on_taken
   records-whole said = record {
     some_key = t.some_key;

@@ -1,66 +1,38 @@
 -- The pass over the records of a file: what it says at each place that it comes to, of the records that are left, and so at its end of the file. Assumes nothing.
 use Prim.Native.Nat.{ℕ, suc, ◌+◌, ◌-◌, ◌≤◌, ◌<◌}
-use mathlib.Core.Path.{◌≡◌, refl, sym, subst}
-use mathlib.Core.Bool.{true, false}
+use mathlib.Core.Path.{◌≡◌, refl, sym, ap, ◌∙◌, subst}
 use mathlib.Core.Logic.{◌≢◌}
 use mathlib.Core.List.{List, [], ◌∷◌}
 use native.Mathlib.Omega.{arith}
 use native.Mathlib.Numerals.{add-one}
-use lib.Dec.{leb, eqb, eqb→eq, leb→le}
+use lib.Dec.{leb, leb→le}
 use lib.ListN.{length}
-use borrow.Author.Tests.{leb-false, le-leb, lt-leb, eq-eqb, ne_eqb}
+use borrow.Author.Tests.{le-leb, lt-leb, eq-eqb, ne_eqb}
 use Rattle.search.specs.Choose.{need}
 use Rattle.search.proofs.Choose.{choose-ind}
 use Rattle.search.proofs.Steps.{need-met, need-unmet}
-use Rattle.search.proofs.Tests.{true-T, eq_is, le_is, not_is}
+use Rattle.search.proofs.Tests.{le_is, not_is}
 use Rattle.store.specs.Limits.{max_commits}
 use Rattle.store.specs.Refusal.{refuse}
 use Rattle.trace.specs.Result.{Result, refused}
 use Rattle.trace.specs.Entry.{Entry}
 use Rattle.trace.specs.Format as Format
 use Rattle.trace.specs.Format.{misshapen, whole, record_at, commits_with, on_record, entries_from}
-use Rattle.trace.specs.Meaning.{why_number, entry_of, reading_of, place_after, PlacesFit, ReadingFits, RecordSays, goes_on, PassFits, counted_of, pass_to, pass_after, form_after, header_of, FormSays}
+use Rattle.trace.specs.Meaning.{why_number, entry_of, Reading, read_whole, reading_of, place_after, PlacesFit, RecordSays, counted_of, Form, misshapen_at, header_of, FormSays}
 use Rattle.trace.specs.declared.records.Why.{Why}
+use Rattle.trace.specs.declared.records.Why.TheVariants.{Many}
+use Rattle.trace.specs.declared.records.Whole.{Whole}
 use Rattle.trace.specs.declared.records.Record.{Record}
 use Rattle.trace.specs.declared.records.Record.TheVariants.{Shift, Commit}
-use Rattle.trace.specs.declared.records.Reading.{Reading}
-use Rattle.trace.specs.declared.records.Reading.TheVariants.{Whole, Refused}
 use Rattle.trace.specs.declared.form.Header.{Header}
-use Rattle.trace.specs.declared.form.Form.{Form}
-use Rattle.trace.specs.declared.form.Form.TheVariants as Forms
-use Rattle.trace.specs.declared.form.Pass.{Pass}
-use Rattle.trace.specs.declared.form.Pass.TheVariants.{Going, Stopped}
+use Rattle.std.specs.Prelude.{Ok, Err}
 use Rattle.trace.proofs.InForm.{Follows, follows_itself, follows_then, follows-on_taken}
 
--- what a pass over records that come to `all` says where it has come to a place of the file: what those that are left come to, all come to; or the refusal
-unfoldable pub PassSays : List ℕ → Header → Result (List Entry) → ℕ → Pass → Type 0
-PassSays s h all at (Going index commits) =
-    (at ≤ length s) × (commits ≤ max_commits) × (index ≤ h.records + 1) × Follows (entries_from s (header_of h) (h.records + 1 - index) at index commits) all
-PassSays s h all at (Stopped code n) = all ≡ refused (refuse code n)
-
--- how many of so many records are left to read
-abbrev pub to_read : ℕ → Pass → ℕ
-to_read count (Going index commits) = count + 1 - index
-to_read count (Stopped code n) = 0
-
--- it begins
-pub pass-begins : (s : List ℕ) (h : Header) (at index commits : ℕ) → at ≤ length s → index ≤ h.records + 1 → commits ≤ max_commits
-    → PassSays s h (entries_from s (header_of h) (h.records + 1 - index) at index commits) at (Going index commits)
-unfolding PassSays
-pass-begins s h at index commits within last few = (within, few, last, follows_itself _)
-
--- while it goes on its place is within the file, and its numbers are those of one
-pub pass-within : (s : List ℕ) (h : Header) (all : Result (List Entry)) (at : ℕ) (p : Pass) → h.records < 65536 → goes_on p h.records ≡ true → PassSays s h all at p → (at ≤ length s) × PassFits p
-unfolding PassSays
-pass-within s h all at (Going index commits) few more (within, fits, last, follows) = (within, (omega (arith, leb→le index h.records (true-T _ more)), fits))
-pass-within s h all at (Stopped code n) few more said = absurd (true-T _ more)
-
 -- the record after this one starts within the file
-pub place-within : (s : List ℕ) (keys at : ℕ) (x : Reading) → at ≤ length s → ReadingFits s keys x → place_after x at ≤ length s
+pub place-within : (s : List ℕ) (keys : ℕ) (r : Record) {next : ℕ} → PlacesFit s keys r next → next ≤ length s
 unfolding PlacesFit
-place-within s keys at (Whole (Shift client l) next) within fit = fit.1
-place-within s keys at (Whole (Commit client count session operations l) next) within fit = fit.1
-place-within s keys at (Refused w) within fit = within
+place-within s keys (Shift client l) fit = fit.1
+place-within s keys (Commit client count session operations l) fit = fit.1
 
 -- a record in a run of `suc n` records, at `at` with number `index`, after `commits` commits
 module _ (s : List ℕ) (h : Format.Header) (at index commits n : ℕ) where
@@ -82,20 +54,37 @@ module _ (s : List ℕ) (h : Format.Header) (at index commits n : ℕ) where
 -- what is said of a record at a place that was read in its turn, with a number and after so many commits: it is there, and a number is left for a commit;
 -- or the refusal of the records from there on, however many they are
 abbrev pub CountedSays : List ℕ → ℕ → ℕ → ℕ → ℕ → ℕ → Reading → Type 0
-CountedSays s at keys clients index commits (Refused w) =
-    (records n : ℕ) → entries_from s (record { keys = keys; clients = clients; records = records }) (suc n) at index commits ≡ refused (refuse (why_number w) index)
-CountedSays s at keys clients index commits (Whole r next) = RecordSays s at keys clients (Whole r next) × (commits_with (entry_of s keys r) commits ≤ max_commits)
+CountedSays s at keys clients index commits (Err y) =
+    (records n : ℕ) → entries_from s (record { keys = keys; clients = clients; records = records }) (suc n) at index commits ≡ refused (refuse (why_number y) index)
+CountedSays s at keys clients index commits (Ok w) = RecordSays s at keys clients (Ok w) × (commits_with (entry_of s keys w.record) commits ≤ max_commits)
 
 pub counted-says : (s : List ℕ) (at keys clients index commits : ℕ) (x : Reading) → RecordSays s at keys clients x → CountedSays s at keys clients index commits (counted_of s keys commits x)
 unfolding counted_of reading_of
-counted-says s at keys clients index commits (Refused w) (says, fit) = λ records n. after-refusal s _ at index commits n (why_number w) (sym (says records))
-counted-says s at keys clients index commits (Whole r next) (says, fit) =
-    choose-ind (CountedSays s at keys clients index commits) (leb (commits_with (entry_of s keys r) commits) max_commits) _ _
+counted-says s at keys clients index commits (Err y) (says, fit) = λ records n. after-refusal s _ at index commits n (why_number y) (sym (says records))
+counted-says s at keys clients index commits (Ok w) (says, fit) =
+    choose-ind (CountedSays s at keys clients index commits) (leb (commits_with (entry_of s keys w.record) commits) max_commits) _ _
     (λ t. ((says, fit), leb→le _ _ t))
-    (λ t. λ records n. after-too-many s _ at index commits n next _ (sym (says records)) ((not_is (leb (commits_with (entry_of s keys r) commits) max_commits) (le_is (commits_with (entry_of s keys r) commits) max_commits)).0 t))
+    (λ t. λ records n. after-too-many s _ at index commits n w.next _ (sym (says records)) ((not_is (leb (commits_with (entry_of s keys w.record) commits) max_commits) (le_is (commits_with (entry_of s keys w.record) commits) max_commits)).0 t))
+
+-- as the code has it: what it answers for the record is what is counted
+pub as_read : (s : List ℕ) (at keys clients index commits : ℕ) (x : Reading) → RecordSays s at keys clients x → {y : Reading} → ((t : List ℕ) (k : ℕ) → y ≡ counted_of t k commits x)
+    → {z : Reading} → y ≡ z → CountedSays s at keys clients index commits z
+as_read s at keys clients index commits x says counted is = subst (CountedSays s at keys clients index commits) (sym (counted s keys) ∙ is) (counted-says s at keys clients index commits x says)
+
+IsWhole : Reading → Type 0
+IsWhole (Ok w) = Unit {0}
+IsWhole (Err y) = ⊥
+
+-- the next place is that of the record
+pub counted-place : (s : List ℕ) (keys commits at : ℕ) (x : Reading) {w : Whole} → counted_of s keys commits x ≡ Ok w → place_after x at ≡ w.next
+unfolding counted_of IsWhole
+counted-place s keys commits at (Err y) is = absurd (subst IsWhole (sym is) tt)
+counted-place s keys commits at (Ok v) {w} is =
+    choose-ind (λ (z : Reading). z ≡ Ok w → v.next ≡ w.next) (leb (commits_with (entry_of s keys v.record) commits) max_commits) (Ok v) (Err Many)
+    (λ t e. ap (λ (z : Reading). place_after z 0) e) (λ t e. absurd (subst IsWhole (sym e) tt)) is
 
 -- the records after one that was read in its turn: what they come to, it comes to with them
-pub then-follows : (s : List ℕ) (h : Format.Header) (at index commits left : ℕ) (r : Record) (next : ℕ) → 0 < left → CountedSays s at h.keys h.clients index commits (Whole r next)
+pub then-follows : (s : List ℕ) (h : Format.Header) (at index commits left : ℕ) (r : Record) (next : ℕ) → 0 < left → CountedSays s at h.keys h.clients index commits (read_whole r next)
     → Follows (entries_from s h (left - 1) next (index + 1) (commits_with (entry_of s h.keys r) commits)) (entries_from s h left at index commits)
 unfolding reading_of
 then-follows s h at index commits left r next some ((says, fit), few) =
@@ -103,72 +92,46 @@ then-follows s h at index commits left r next some ((says, fit), few) =
     rw add-one (subst (λ n. Follows (entries_from s h (left - 1) next (suc index) (commits_with (entry_of s h.keys r) commits)) (entries_from s h n at index commits)) (sym one_more)
     (after-whole s h at index commits (left - 1) next _ (sym (says h.records)) few))
 
--- a pass that goes on to the record with a number, after so many commits
-module _ (s : List ℕ) (h : Header) (all : Result (List Entry)) (at index commits : ℕ) (within : at ≤ length s) (some : index ≤ h.records)
-    (follows : Follows (entries_from s (header_of h) (h.records + 1 - index) at index commits) all) where
-  -- what the pass says after it, and that fewer records are left to read
-  abbrev Leads : Reading → Pass → Type 0
-  Leads x p = PassSays s h all (place_after x at) p × (to_read h.records p < h.records + 1 - index)
+-- the record at `at` is the next to be read, the one with this number, `left` are left and so many commits came before it: what they come to, all records come to
+pub record InTurn (s : List ℕ) (h : Header) (all : Result (List Entry)) (left at index commits : ℕ) : Type 0 where
+  pub within : at ≤ length s
+  pub few-made : commits ≤ max_commits
+  pub follows : Follows (entries_from s (header_of h) left at index commits) all
 
-  the_rest : Follows (entries_from s (header_of h) (suc (h.records - index)) at index commits) all
-  the_rest =
-      let one_more : h.records + 1 - index ≡ suc (h.records - index) = omega arith in
-      subst (λ n. Follows (entries_from s (header_of h) n at index commits) all) one_more follows
+pub turn-starts : (s : List ℕ) (h : Header) (left at index commits : ℕ) → at ≤ length s → commits ≤ max_commits → InTurn s h (entries_from s (header_of h) left at index commits) left at index commits
+turn-starts s h left at index commits within few = record { within = within; few-made = few; follows = follows_itself _ }
 
-  leads : (x : Reading) → RecordSays s at h.keys h.clients x → Leads x (pass_after s h.keys (Going index commits) x)
-  unfolding PassSays pass_after counted_of reading_of
-  leads (Refused w) (says, fit) = (the_rest.refusal _ (after-refusal s (header_of h) at index commits (h.records - index) (why_number w) (sym (says h.records))), omega arith)
-  leads (Whole r next) (says, fit) =
-      let is : record_at s (header_of h) at ≡ whole (entry_of s h.keys r) next = sym (says h.records) in
-      let count = commits_with (entry_of s h.keys r) commits in
-      choose-ind (λ y. Leads (Whole r next) (pass_to s h.keys index commits y)) (leb count max_commits) _ _
-      (λ t.
-      let fits : count ≤ max_commits = leb→le _ _ t in
-      let left : h.records + 1 - (index + 1) ≡ h.records - index = omega arith in
-      let rest = after-whole s (header_of h) at index commits (h.records - index) next _ is fits in
-      ((place-within s h.keys at (Whole r next) within fit, fits, omega arith, rw (left, add-one index) (follows_then rest the_rest)), omega arith))
-      (λ t. let many = (not_is (leb count max_commits) (le_is count max_commits)).0 t in (the_rest.refusal _ (after-too-many s (header_of h) at index commits (h.records - index) next _ is many), omega arith))
+module _ {s : List ℕ} {h : Header} {all : Result (List Entry)} {left at index commits : ℕ} (t : InTurn s h all left at index commits) where
+  -- it is there, and the next one is to be read
+  pub turn-goes : 0 < left → (r : Record) (next : ℕ) → CountedSays s at h.keys h.clients index commits (read_whole r next) → {count : ℕ} → count ≡ commits_with (entry_of s h.keys r) commits
+      → InTurn s h all (left - 1) next (index + 1) count
+  turn-goes some r next says counted = rw counted (record {
+    within = place-within s h.keys r says.0.1;
+    few-made = says.1;
+    follows = follows_then (then-follows s (header_of h) at index commits left r next some says) t.follows;
+  })
 
--- what is said of the record at the place of a pass that goes on: what the pass says after it, and that fewer records are left to read
-pub pass-after : (s : List ℕ) (h : Header) (all : Result (List Entry)) (at : ℕ) (x : Reading) → RecordSays s at h.keys h.clients x → (p : Pass) → goes_on p h.records ≡ true → PassSays s h all at p
-    → PassSays s h all (place_after x at) (pass_after s h.keys p x) × (to_read h.records (pass_after s h.keys p x) < to_read h.records p)
-unfolding PassSays
-pass-after s h all at x says (Going index commits) more (within, few, last, follows) = leads s h all at index commits within (leb→le _ _ (true-T _ more)) follows x says
-pass-after s h all at x says (Stopped code n) more fails = absurd (true-T _ more)
-
--- what the records that are left come to, all records come to
-module _ (s : List ℕ) (h : Header) (all : Result (List Entry)) (at index commits left : ℕ) (follows : Follows (entries_from s (header_of h) left at index commits) all) where
   -- one that is refused in its turn, all are refused for
-  pub all-stopped : (w : Why) → 0 < left → CountedSays s at h.keys h.clients index commits (Refused w) → FormSays all h (Forms.Misshapen (why_number w) index)
+  pub turn-stops : (w : Why) → 0 < left → CountedSays s at h.keys h.clients index commits (Err w) → FormSays all h (misshapen_at (why_number w) index)
   unfolding FormSays
-  all-stopped w some says =
+  turn-stops w some says =
       let one_more : left ≡ suc (left - 1) = omega arith in
-      follows.refusal _ (subst (λ n. entries_from s (header_of h) n at index commits ≡ refused (refuse (why_number w) index)) (sym one_more) (says h.records (left - 1)))
+      t.follows.refusal _ (subst (λ n. entries_from s (header_of h) n at index commits ≡ refused (refuse (why_number w) index)) (sym one_more) (says h.records (left - 1)))
 
   -- none is left, and none of the bytes
-  pub all_read : left ≡ 0 → at ≡ length s → FormSays all h (Forms.Whole h)
+  pub turn-ends : left ≡ 0 → at ≡ length s → FormSays all h (Ok h)
   unfolding FormSays entries_from
-  all_read none e =
-      let (entries, read) = follows.value [] (rw none (sym (need-met _ _ _ (eq-eqb _ _ e) refl))) in
+  turn-ends none e =
+      let (entries, read) = t.follows.value [] (rw none (sym (need-met _ _ _ (eq-eqb _ _ e) refl))) in
       (refl, entries, read)
 
   -- code 5: "bytes left after the counted records"
-  pub bytes_left : left ≡ 0 → at ≢ length s → FormSays all h (Forms.Misshapen 5 h.records)
+  pub turn-over : left ≡ 0 → at ≢ length s → FormSays all h (misshapen_at 5 h.records)
   unfolding FormSays entries_from
-  bytes_left none e = follows.refusal _ (rw none (sym (need-unmet _ _ _ (ne_eqb _ _ e))))
-
--- the pass has ended: its form is what all records come to
-pub pass-ends : (s : List ℕ) (h : Header) (all : Result (List Entry)) (at : ℕ) (p : Pass) → goes_on p h.records ≡ false → PassSays s h all at p → FormSays all h (form_after h p at (length s))
-unfolding PassSays FormSays
-pass-ends s h all at (Going index commits) over (within, few, last, follows) =
-    let none : h.records + 1 - index ≡ 0 = omega (arith, leb-false index h.records over) in
-    choose-ind (FormSays all h) (eqb at (length s)) _ _
-    (λ t. all_read s h all at index commits _ follows none (eqb→eq _ _ t))
-    (λ t. bytes_left s h all at index commits _ follows none ((not_is (eqb at (length s)) (eq_is at (length s))).0 t))
-pass-ends s h all at (Stopped code n) over said = said
+  turn-over none e = t.follows.refusal _ (rw none (sym (need-unmet _ _ _ (ne_eqb _ _ e))))
 
 -- what is said of the records that are left is said of all
 pub follows-form : {x y : Result (List Entry)} (h : Header) (f : Form) → Follows x y → FormSays x h f → FormSays y h f
 unfolding FormSays
-follows-form h (Forms.Misshapen code n) follows e = follows.refusal _ e
-follows-form h (Forms.Whole g) follows (same, rs, e) = let (all, read) = follows.value rs e in (same, all, read)
+follows-form h (Err m) follows e = follows.refusal _ e
+follows-form h (Ok g) follows (same, rs, e) = let (all, read) = follows.value rs e in (same, all, read)

@@ -4,9 +4,10 @@ use mathlib.Core.Path.{◌≡◌, sym, ◌∙◌, subst}
 use mathlib.Core.Bool.{Bool, true, false, ◌&&◌, ◌||◌}
 use mathlib.Core.List.{List}
 use lib.Dec.{T, eqb}
+use borrow.Author.Rules.{rules}
 use Rattle.search.specs.Choose.{need}
 use Rattle.search.proofs.Choose.{need-ind}
-use Rattle.search.proofs.Tests.{true-T}
+use Rattle.search.proofs.Tests.{true-T, false-T}
 use Rattle.sets.specs.Set.{Set, has, size}
 use Rattle.endian.specs.Endian.{Bytes}
 use Rattle.store.specs.Limits.{max_keys}
@@ -15,13 +16,11 @@ use Rattle.trace.specs.Entry.{shifting, committing}
 use Rattle.trace.specs.Listed.{touched, keys_in}
 use Rattle.trace.specs.Format as Format
 use Rattle.trace.specs.Format.{Header, operations_at, operations_fit, misshapen, whole, shift_at, short_shift_of, short_shift_at}
-use Rattle.trace.specs.Meaning.{entry_of, reading_of}
-use Rattle.trace.specs.Sorted.{SortedAs, SortSays, touched_by, RecordSorted, ReadingSorted}
+use Rattle.trace.specs.Meaning.{entry_of}
+use Rattle.trace.specs.Sorted.{SortedAs, SortSays, touched_by, RecordSorted}
 use Rattle.trace.specs.declared.records.Record.TheVariants.{Shift, Commit}
-use Rattle.trace.specs.declared.records.Reading.{Reading}
-use Rattle.trace.specs.declared.records.Reading.TheVariants.{Whole, Refused}
-use Rattle.trace.specs.declared.records.Sorted.{Sorted}
-use Rattle.trace.specs.declared.records.Sorted.TheVariants.{Fit, Unfit}
+use Rattle.trace.specs.declared.records.Record.{Record}
+use Rattle.std.specs.Prelude.{Option, Some, None, IsSome}
 use Rattle.trace.proofs.Decoded.{operations-read}
 use Rattle.trace.proofs.Doubled.{doubled-size, firsts-doubled}
 use Rattle.trace.proofs.Ranks.{touched-sorted}
@@ -29,17 +28,23 @@ use Rattle.trace.proofs.Touched.{touched-count}
 
 -- ---- what an answer says
 
-module _ (s : List ℕ) (start keys m : ℕ) (values : List ℕ) {x : Sorted} where
-  pub says-fit : {ranks : ℕ} → x ≡ Fit ranks → SortSays s start keys m values x → (operations_fit s start keys 0 m ≡ true) × SortedAs s start m ranks values
+module _ (s : List ℕ) (start keys m : ℕ) (values : List ℕ) {x : Option ℕ} where
+  pub says-fit : {ranks : ℕ} → x ≡ Some ranks → SortSays s start keys m values x → (operations_fit s start keys 0 m ≡ true) × SortedAs s start m ranks values
   unfolding SortSays
   says-fit is says = subst (SortSays s start keys m values) is says
 
-  pub says-touched : {ranks : ℕ} → x ≡ Fit ranks → SortSays s start keys m values x → (k : Key) → touched (operations_at s start m) k ≡ touched_by ranks k
+  pub says-touched : {ranks : ℕ} → x ≡ Some ranks → SortSays s start keys m values x → (k : Key) → touched (operations_at s start m) k ≡ touched_by ranks k
   says-touched {ranks} is says = touched-sorted s start m ranks values (says-fit is says).1
 
-  pub says-unfit : x ≡ Unfit → SortSays s start keys m values x → operations_fit s start keys 0 m ≡ false
+  pub says-unfit : x ≡ None → SortSays s start keys m values x → operations_fit s start keys 0 m ≡ false
   unfolding SortSays
   says-unfit is says = subst (SortSays s start keys m values) is says
+
+-- operations that fit are sorted
+pub says-some : (s : List ℕ) (start keys m : ℕ) (values : List ℕ) (x : Option ℕ) → operations_fit s start keys 0 m ≡ true → SortSays s start keys m values x → IsSome x
+unfolding SortSays
+says-some s start keys m values (Some ranks) fit says = search rules
+says-some s start keys m values None fit says = absurd (false-T _ says (true-T _ fit))
 
 -- the first ranks of the keys with an operation are as many as these keys
 pub firsts-many : (s : List ℕ) (start keys m : ℕ) (values : List ℕ) (ranks w : Set) → Bytes s → keys ≤ max_keys → w < 2 ^ 64
@@ -69,14 +74,13 @@ unfolding no_commit short_shift_at short_shift_of
 short-shift-no_commit s h at = need-no_commit _ 3 _ (need-no_commit _ 3 _ (need-no_commit _ 3 _ (need-no_commit _ 6 _ (need-no_commit _ 7 _ (need-no_commit _ 7 _ tt)))))
 
 module _ (s : List ℕ) (keys : ℕ) (ranks : Set) (values : List ℕ) where
-  unsorted : (r : Reading) → T (no_commit (reading_of s keys r)) → ReadingSorted s ranks values r
-  unfolding no_commit reading_of entry_of RecordSorted
-  unsorted (Refused w) t = tt
-  unsorted (Whole (Shift client l) next) t = tt
-  unsorted (Whole (Commit client count session operations l) next) t = absurd t
+  unsorted : (r : Record) (next : ℕ) → T (no_commit (whole (entry_of s keys r) next)) → RecordSorted s ranks values r
+  unfolding no_commit entry_of RecordSorted
+  unsorted (Shift client l) next t = tt
+  unsorted (Commit client count session operations l) next t = absurd t
 
-  pub shift-unsorted : (r : Reading) (h : Header) (at : ℕ) → reading_of s keys r ≡ shift_at s h at → ReadingSorted s ranks values r
-  shift-unsorted r h at is = unsorted r (subst (λ (x : Format.Reading). T (no_commit x)) (sym is) (shift-no_commit s h at))
+  pub shift-unsorted : (r : Record) (next : ℕ) (h : Header) (at : ℕ) → whole (entry_of s keys r) next ≡ shift_at s h at → RecordSorted s ranks values r
+  shift-unsorted r next h at is = unsorted r next (subst (λ (x : Format.Reading). T (no_commit x)) (sym is) (shift-no_commit s h at))
 
-  pub short-shift-unsorted : (r : Reading) (h : Header) (at : ℕ) → reading_of s keys r ≡ short_shift_at s h at → ReadingSorted s ranks values r
-  short-shift-unsorted r h at is = unsorted r (subst (λ (x : Format.Reading). T (no_commit x)) (sym is) (short-shift-no_commit s h at))
+  pub short-shift-unsorted : (r : Record) (next : ℕ) (h : Header) (at : ℕ) → whole (entry_of s keys r) next ≡ short_shift_at s h at → RecordSorted s ranks values r
+  short-shift-unsorted r next h at is = unsorted r next (subst (λ (x : Format.Reading). T (no_commit x)) (sym is) (short-shift-no_commit s h at))

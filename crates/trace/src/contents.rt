@@ -10,7 +10,7 @@ ghost use Rattle.trace.specs.Format.{operations_at};
 ghost use Rattle.trace.specs.Meaning.{listing_of, ListingFits, OperationsFit};
 ghost use Rattle.trace.specs.Sorted.{SortedAs, touched_by, ListsBy};
 
-use crate::records::{Listing, Sorted, first_ranks, sort};
+use crate::records::{Listing, first_ranks, sort};
 
 // "K view masks u64": the first n elements of `masks` become the n masks that stand at a place; the others stay.
 pub fn masks_into(s: &[u8], start: usize, masks: &mut [u64], n: usize)
@@ -106,10 +106,7 @@ pub fn sort_operations(s: &[u8], start: usize, keys: usize, m: usize, values: &m
     requires { OperationsFit s.now keys start m × (keys ≤ max_keys) × (2 * max_keys ≤ length values.old) }
     ensures { SortedAs s.now start m result values.new }
 {
-    let Sorted::Fit(ranks) = sort(s, start, keys, m, values) else {
-        return 0;
-    };
-    ranks
+    sort(s, start, keys, m, values).unwrap()
 }
 
 // The elements of `masks` at the keys with an operation, by the ranks of the operations, become the masks that stand at a place, in turn; the others stay.

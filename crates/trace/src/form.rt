@@ -3,7 +3,7 @@
 ghost use Rattle.std.specs.Prelude.{◌≡◌, List, ℕ, ◌+◌, ◌≤◌, ◌<◌, length};
 ghost use Rattle.store.specs.Limits.{max_keys, max_commits};
 ghost use Rattle.trace.specs.Format.{within_limits};
-ghost use Rattle.trace.specs.Meaning.{goes_on, PassFits, counted_of, pass_after, form_after, header_of, RestSays, HeaderSays};
+ghost use Rattle.trace.specs.Meaning.{why_number, counted_of, header_of, RestSays, HeaderSays};
 
 use crate::records::{Reading, Why};
 use crate::{reader, records};
@@ -16,85 +16,36 @@ pub struct Header {
     pub records: usize,
 }
 
-// What was looked at is in form, of a file with this header; or the code of the first thing that is not and the number of the record where it is found.
+// What is not in form: its code, and the number of the record where it is found.
 #[derive(Clone, Copy)]
-pub enum Form {
-    Whole(Header),
-    Misshapen { code: usize, record: usize },
+pub struct Misshapen {
+    pub code: usize,
+    pub record: usize,
 }
 
-// A pass over the records: the number of the one that is next and how many commits there are before it, or where and with which code
-// the file is refused.
-#[derive(Clone, Copy)]
-pub enum Pass {
-    Going { index: usize, commits: usize },
-    Stopped { code: usize, record: usize },
-}
-
-// A record is left to read.
-fn goes_on(p: Pass, count: usize) -> bool
-    ensures { result ≡ goes_on p count }
-{
-    let Pass::Going { index, commits: _ } = p else {
-        return false;
-    };
-    index <= count
-}
+// What was looked at is in form, of a file with this header; or the first thing that is not.
+pub type Form = Result<Header, Misshapen>;
 
 // A record in its turn, after so many commits; code 8: "a 64th commit".
 pub fn counted(x: Reading, commits: usize) -> Reading
     requires { commits ≤ max_commits }
     ensures { (s : List ℕ) (keys : ℕ) → result ≡ counted_of s keys commits x }
 {
-    let Reading::Whole { record, next: _ } = x else {
-        return x;
-    };
-    let count = records::commits_with(record, commits);
+    let whole = x?;
+    let count = records::commits_with(whole.record, commits);
     if store::Store::COMMITS < count {
-        return Reading::Refused(Why::Many);
+        return Err(Why::Many);
     }
-    x
+    Ok(whole)
 }
 
-// What a record leads to.
-fn after(p: Pass, x: Reading) -> Pass
-    requires { PassFits p }
-    ensures { (s : List ℕ) (keys : ℕ) → result ≡ pass_after s keys p x }
+// The refusal of the record of this number.
+pub fn refused_at(why: Why, number: usize) -> Misshapen
+    ensures { result ≡ record { code = why_number why; «record» = number } }
 {
-    let Pass::Going { index, commits } = p else {
-        return p;
-    };
-    let r = counted(x, commits);
-    let Reading::Whole { record, next: _ } = r else {
-        return Pass::Stopped {
-            code: records::refusal(r),
-            record: index,
-        };
-    };
-    Pass::Going {
-        index: index + 1,
-        commits: records::commits_with(record, commits),
-    }
-}
-
-// The form of the file after the pass, which ended at a place of it; code 5: "bytes left after the counted records".
-fn form_after(h: Header, p: Pass, at: usize, len: usize) -> Form
-    ensures { result ≡ form_after h p at len }
-{
-    match p {
-        Pass::Stopped { code, record } => Form::Misshapen { code, record },
-        Pass::Going {
-            index: _,
-            commits: _,
-        } => {
-            if at != len {
-                return Form::Misshapen {
-                    code: 5,
-                    record: h.records,
-                };
-            }
-            Form::Whole(h)
-        }
+    Misshapen {
+        code: records::number(why),
+        record: number,
     }
 }
 
@@ -105,11 +56,21 @@ pub fn records_form(s: &[u8], h: Header, at: usize, index: usize, commits: usize
     ensures { RestSays s.now h at index commits result }
 {
     let mut r = reader::new(s, at);
-    let mut pass = Pass::Going { index, commits };
-    while goes_on(pass, h.records) {
-        pass = after(pass, reader::next(&mut r, h.keys, h.clients));
+    let mut made = commits;
+    for number in index..h.records + 1 {
+        let whole = match counted(reader::next(&mut r, h.keys, h.clients), made) {
+            Ok(whole) => whole,
+            Err(why) => return Err(refused_at(why, number)),
+        };
+        made = records::commits_with(whole.record, made);
     }
-    form_after(h, pass, r.at, s.len())
+    if r.at != s.len() {
+        return Err(Misshapen {
+            code: 5,
+            record: h.records,
+        });
+    }
+    Ok(h)
 }
 
 // "Keys 1 to" 32, "clients 1 to 16"
@@ -134,19 +95,19 @@ pub fn header_of(s: &[u8]) -> Form
 {
     let len = s.len();
     if len < store::Store::HEADER {
-        return Form::Misshapen { code: 1, record: 0 };
+        return Err(Misshapen { code: 1, record: 0 });
     }
     if store::Store::BYTES < len {
-        return Form::Misshapen { code: 1, record: 0 };
+        return Err(Misshapen { code: 1, record: 0 });
     }
     if endian::u32_at(s, 0) as usize != len {
-        return Form::Misshapen { code: 1, record: 0 };
+        return Err(Misshapen { code: 1, record: 0 });
     }
     if endian::u16_at(s, 4) != 8 {
-        return Form::Misshapen { code: 2, record: 0 };
+        return Err(Misshapen { code: 2, record: 0 });
     }
     if endian::u16_at(s, 6) != 1 {
-        return Form::Misshapen { code: 2, record: 0 };
+        return Err(Misshapen { code: 2, record: 0 });
     }
     let h = Header {
         keys: endian::byte_at(s, 8),
@@ -154,8 +115,8 @@ pub fn header_of(s: &[u8]) -> Form
         records: endian::u16_at(s, 10) as usize,
     };
     if within_limits(h) {
-        Form::Whole(h)
+        Ok(h)
     } else {
-        Form::Misshapen { code: 2, record: 0 }
+        Err(Misshapen { code: 2, record: 0 })
     }
 }

@@ -1,13 +1,13 @@
 // "A record is either read whole or the file is refused there" (01, The trace file). Within a record the checks come in the order
 // of "Bench codes": "4 bytes left, kind 4, rest of 3, then 6, 7".
-ghost use Rattle.std.specs.Prelude.{◌≡◌, List, ◌&&◌, ◌||◌, ℕ, ◌+◌, ◌*◌, ◌%◌, ◌≤◌, ◌<◌, length, eqb};
+ghost use Rattle.std.specs.Prelude.{◌≡◌, List, Ok, ◌&&◌, ◌||◌, ℕ, ◌+◌, ◌*◌, ◌%◌, ◌≤◌, ◌<◌, length, eqb};
 ghost use Rattle.search.specs.Choose.{choose};
 ghost use Rattle.sets.specs.Set.{has};
 ghost use Rattle.store.specs.Limits.{max_keys, max_commits};
 ghost use Rattle.trace.specs.Listed.{keys_in};
 ghost use Rattle.trace.specs.Format.{operations_at, rank_at, operation_fits, shift_at, commit_of, commit_at, short_shift_of, short_shift_at, short_commit_of, short_commit_at, commits_with};
-ghost use Rattle.trace.specs.Meaning.{why_number, refusal_number, place_after, entry_of, Answers, RecordSays, InFormAt};
-ghost use Rattle.trace.specs.Sorted.{ValuesFit, SortSays, SortedInto};
+ghost use Rattle.trace.specs.Meaning.{why_number, Reading, place_after, entry_of, Answers, RecordSays, InFormAt};
+ghost use Rattle.trace.specs.Sorted.{ValuesFit, SortSays, reading_in, SortedInto};
 
 // Why a record is refused; why_number gives the code.
 #[derive(Clone, Copy)]
@@ -53,32 +53,21 @@ pub enum Record {
     },
 }
 
-// "A record is either read whole or the file is refused there": the record and the place where the next one starts, or why not.
+// A record that was read whole, and the place where the next one starts.
 #[derive(Clone, Copy)]
-pub enum Reading {
-    Whole { record: Record, next: usize },
-    Refused(Why),
-}
-
-// What was read, and where it is a commit the ranks of its operations, as a set.
-#[derive(Clone, Copy)]
-pub struct Read {
-    pub reading: Reading,
-    pub ranks: u64,
-}
-
-// The operations of a commit fit, and these are their ranks, as a set; or they do not.
-#[derive(Clone, Copy)]
-pub enum Sorted {
-    Fit(u64),
-    Unfit,
-}
-
-// A record that is known to be in form, and the place where the next one starts.
-#[derive(Clone, Copy)]
-pub struct Known {
+pub struct Whole {
     pub record: Record,
     pub next: usize,
+}
+
+// "A record is either read whole or the file is refused there".
+pub type Reading = Result<Whole, Why>;
+
+// A record that was read whole, and where it is a commit the ranks of its operations, as a set.
+#[derive(Clone, Copy)]
+pub struct Sorted {
+    pub whole: Whole,
+    pub ranks: u64,
 }
 
 // The code of a refusal.
@@ -94,24 +83,14 @@ pub fn number(w: Why) -> usize
     }
 }
 
-// The code of a refusal, and 0 where there is none.
-pub fn refusal(r: Reading) -> usize
-    ensures { result ≡ refusal_number r }
-{
-    match r {
-        Reading::Whole { record: _, next: _ } => 0,
-        Reading::Refused(w) => number(w),
-    }
-}
-
 // Where the record after this one starts. A record that is refused has none after it: its own place is answered.
 pub fn place_after(r: Reading, at: usize) -> usize
     ensures { result ≡ place_after r at }
 {
-    let Reading::Whole { record: _, next } = r else {
-        return at;
-    };
-    next
+    match r {
+        Ok(whole) => whole.next,
+        Err(_) => at,
+    }
 }
 
 // How many commits there are up to a record and with it.
@@ -162,7 +141,7 @@ fn low_after(s: &[u8], at: usize, keys: usize, low: usize) -> usize
 
 // "Operations rise strictly by key and then kind": whether the m operations from a place on fit, each of a higher rank 2 * key + access than the one
 // before. Where they do, the element of `values` at each of their ranks becomes the operation's value.
-pub fn sort(s: &[u8], start: usize, keys: usize, m: usize, values: &mut [u64]) -> Sorted
+pub fn sort(s: &[u8], start: usize, keys: usize, m: usize, values: &mut [u64]) -> Option<u64>
     requires { (start + 8 * m ≤ length s.now) × (keys ≤ max_keys) × (2 * max_keys ≤ length values.old) }
     ensures said { SortSays s.now start keys m values.new result }
     ensures small { ValuesFit values.old → ValuesFit values.new }
@@ -174,7 +153,7 @@ pub fn sort(s: &[u8], start: usize, keys: usize, m: usize, values: &mut [u64]) -
     while 0 < left {
         low = low_after(s, at, keys, low);
         if low == 0 {
-            return Sorted::Unfit;
+            return None;
         }
         let rank = low - 1;
         values[rank] = endian::u32_at(s, at + 4) as u64;
@@ -182,7 +161,7 @@ pub fn sort(s: &[u8], start: usize, keys: usize, m: usize, values: &mut [u64]) -
         at = at + 8;
         left = left - 1;
     }
-    Sorted::Fit(ranks)
+    Some(ranks)
 }
 
 // Of each key with an operation the first of its two ranks, 2 * key, by the ranks of the operations.
@@ -192,13 +171,6 @@ pub fn first_ranks(ranks: u64) -> u64
     (ranks | (ranks >> 1)) & 0x5555_5555_5555_5555
 }
 
-// What was read has no operations.
-fn unsorted(reading: Reading) -> Read
-    ensures { result.reading ≡ reading }
-{
-    Read { reading, ranks: 0 }
-}
-
 // "Kind 2, view shift, length 6 + 8K for K keys: client u8, zero u8, K view masks u64."
 fn shift_at(s: &[u8], at: usize, keys: usize, clients: usize) -> Reading
     requires { (at + 4 ≤ length s.now) × (keys ≤ max_keys) }
@@ -206,46 +178,51 @@ fn shift_at(s: &[u8], at: usize, keys: usize, clients: usize) -> Reading
 {
     let size = 6 + 8 * keys;
     if endian::u16_at(s, at) as usize != size {
-        return Reading::Refused(Why::Length);
+        return Err(Why::Length);
     }
     if s.len() < at + size {
-        return Reading::Refused(Why::Length);
+        return Err(Why::Length);
     }
     let client = endian::byte_at(s, at + 4);
     if clients <= client {
-        return Reading::Refused(Why::Client);
+        return Err(Why::Client);
     }
     if endian::byte_at(s, at + 5) != 0 {
-        return Reading::Refused(Why::Body);
+        return Err(Why::Body);
     }
     let listing = Listing::Every { masks: at + 6 };
     let record = Record::Shift { client, listing };
-    Reading::Whole {
+    Ok(Whole {
         record,
         next: at + size,
-    }
+    })
 }
 
 // A commit of m operations: what is tested of it once m is read.
-fn commit_of(s: &[u8], at: usize, keys: usize, clients: usize, m: usize, values: &mut [u64]) -> Read
+fn commit_of(
+    s: &[u8],
+    at: usize,
+    keys: usize,
+    clients: usize,
+    m: usize,
+    values: &mut [u64],
+) -> Result<Sorted, Why>
     requires { (at + 6 ≤ length s.now) × (keys ≤ max_keys) × (m < 256) × (2 * max_keys ≤ length values.old) }
-    ensures said { Answers s.now keys clients (λ h. commit_of s.now h at m) result.reading }
+    ensures said { Answers s.now keys clients (λ h. commit_of s.now h at m) (reading_in result) }
     ensures sorted { SortedInto s.now values.old values.new result }
 {
     let size = 10 + 8 * m + 8 * keys;
     if endian::u16_at(s, at) as usize != size {
-        return unsorted(Reading::Refused(Why::Length));
+        return Err(Why::Length);
     }
     if s.len() < at + size {
-        return unsorted(Reading::Refused(Why::Length));
+        return Err(Why::Length);
     }
     let client = endian::byte_at(s, at + 4);
     if clients <= client {
-        return unsorted(Reading::Refused(Why::Client));
+        return Err(Why::Client);
     }
-    let Sorted::Fit(ranks) = sort(s, at + 10, keys, m, values) else {
-        return unsorted(Reading::Refused(Why::Body));
-    };
+    let ranks = sort(s, at + 10, keys, m, values).ok_or(Why::Body)?;
     let listing = Listing::Every {
         masks: at + (10 + 8 * m),
     };
@@ -256,21 +233,27 @@ fn commit_of(s: &[u8], at: usize, keys: usize, clients: usize, m: usize, values:
         operations: at + 10,
         listing,
     };
-    let reading = Reading::Whole {
+    let whole = Whole {
         record,
         next: at + size,
     };
-    Read { reading, ranks }
+    Ok(Sorted { whole, ranks })
 }
 
 // "Kind 3, commit, length 10 + 8m + 8K: client u8, m u8, session number u32, m operations, K masks of the view after the commit."
-fn commit_at(s: &[u8], at: usize, keys: usize, clients: usize, values: &mut [u64]) -> Read
+fn commit_at(
+    s: &[u8],
+    at: usize,
+    keys: usize,
+    clients: usize,
+    values: &mut [u64],
+) -> Result<Sorted, Why>
     requires { (at + 4 ≤ length s.now) × (keys ≤ max_keys) × (2 * max_keys ≤ length values.old) }
-    ensures said { Answers s.now keys clients (λ h. commit_at s.now h at) result.reading }
+    ensures said { Answers s.now keys clients (λ h. commit_at s.now h at) (reading_in result) }
     ensures sorted { SortedInto s.now values.old values.new result }
 {
     if s.len() <= at + 5 {
-        return unsorted(Reading::Refused(Why::Length));
+        return Err(Why::Length);
     }
     commit_of(s, at, keys, clients, endian::byte_at(s, at + 5), values)
 }
@@ -283,30 +266,30 @@ fn short_shift_of(s: &[u8], at: usize, keys: usize, clients: usize, listed: u64)
 {
     let size = endian::u16_at(s, at) as usize;
     if size != 10 + 8 * sets::size(listed) {
-        return Reading::Refused(Why::Length);
+        return Err(Why::Length);
     }
     if s.len() < at + size {
-        return Reading::Refused(Why::Length);
+        return Err(Why::Length);
     }
     let client = endian::byte_at(s, at + 4);
     if clients <= client {
-        return Reading::Refused(Why::Client);
+        return Err(Why::Client);
     }
     if endian::byte_at(s, at + 5) != 0 {
-        return Reading::Refused(Why::Body);
+        return Err(Why::Body);
     }
     if listed >> keys != 0 {
-        return Reading::Refused(Why::Body);
+        return Err(Why::Body);
     }
     let listing = Listing::Only {
         listed,
         masks: at + 10,
     };
     let record = Record::Shift { client, listing };
-    Reading::Whole {
+    Ok(Whole {
         record,
         next: at + size,
-    }
+    })
 }
 
 // "A set .. beyond the file's end is code 3."
@@ -315,7 +298,7 @@ fn short_shift_at(s: &[u8], at: usize, keys: usize, clients: usize) -> Reading
     ensures { Answers s.now keys clients (λ h. short_shift_at s.now h at) result }
 {
     if s.len() < at + 10 {
-        return Reading::Refused(Why::Length);
+        return Err(Why::Length);
     }
     short_shift_of(s, at, keys, clients, endian::u32_at(s, at + 6) as u64)
 }
@@ -342,13 +325,13 @@ pub fn keys_in(s: &[u8], start: usize, m: usize) -> usize
 }
 
 // How many keys the m operations from a place on have, as keys_in counts them: only those that do not fit are gone over again.
-fn keys_counted(s: &[u8], start: usize, keys: usize, m: usize, sorted: Sorted) -> usize
+fn keys_counted(s: &[u8], start: usize, keys: usize, m: usize, sorted: Option<u64>) -> usize
     requires { (start + 8 * m ≤ length s.now) × (m < 256) × (keys ≤ max_keys) × ((values : List ℕ) × SortSays s.now start keys m values sorted) }
     ensures { (result ≡ keys_in (operations_at s.now start m)) × (result < 256) }
 {
     match sorted {
-        Sorted::Fit(ranks) => sets::size(first_ranks(ranks)),
-        Sorted::Unfit => keys_in(s, start, m),
+        Some(ranks) => sets::size(first_ranks(ranks)),
+        None => keys_in(s, start, m),
     }
 }
 
@@ -360,26 +343,24 @@ fn short_commit_of(
     clients: usize,
     m: usize,
     values: &mut [u64],
-) -> Read
+) -> Result<Sorted, Why>
     requires { (at + (10 + 8 * m) ≤ length s.now) × (keys ≤ max_keys) × (m < 256) × (2 * max_keys ≤ length values.old) }
-    ensures said { Answers s.now keys clients (λ h. short_commit_of s.now h at m (operations_at s.now (at + 10) m)) result.reading }
+    ensures said { Answers s.now keys clients (λ h. short_commit_of s.now h at m (operations_at s.now (at + 10) m)) (reading_in result) }
     ensures sorted { SortedInto s.now values.old values.new result }
 {
     let sorted = sort(s, at + 10, keys, m, values);
     let size = endian::u16_at(s, at) as usize;
     if size != 10 + 8 * m + 8 * keys_counted(s, at + 10, keys, m, sorted) {
-        return unsorted(Reading::Refused(Why::Length));
+        return Err(Why::Length);
     }
     if s.len() < at + size {
-        return unsorted(Reading::Refused(Why::Length));
+        return Err(Why::Length);
     }
     let client = endian::byte_at(s, at + 4);
     if clients <= client {
-        return unsorted(Reading::Refused(Why::Client));
+        return Err(Why::Client);
     }
-    let Sorted::Fit(ranks) = sorted else {
-        return unsorted(Reading::Refused(Why::Body));
-    };
+    let ranks = sorted.ok_or(Why::Body)?;
     let listing = Listing::Touched {
         operations: at + 10,
         count: m,
@@ -392,52 +373,64 @@ fn short_commit_of(
         operations: at + 10,
         listing,
     };
-    let reading = Reading::Whole {
+    let whole = Whole {
         record,
         next: at + size,
     };
-    Read { reading, ranks }
+    Ok(Sorted { whole, ranks })
 }
 
 // "an operation's key, beyond the file's end is code 3."
-fn short_commit_at(s: &[u8], at: usize, keys: usize, clients: usize, values: &mut [u64]) -> Read
+fn short_commit_at(
+    s: &[u8],
+    at: usize,
+    keys: usize,
+    clients: usize,
+    values: &mut [u64],
+) -> Result<Sorted, Why>
     requires { (at + 4 ≤ length s.now) × (keys ≤ max_keys) × (2 * max_keys ≤ length values.old) }
-    ensures said { Answers s.now keys clients (λ h. short_commit_at s.now h at) result.reading }
+    ensures said { Answers s.now keys clients (λ h. short_commit_at s.now h at) (reading_in result) }
     ensures sorted { SortedInto s.now values.old values.new result }
 {
     if s.len() <= at + 5 {
-        return unsorted(Reading::Refused(Why::Length));
+        return Err(Why::Length);
     }
     let m = endian::byte_at(s, at + 5);
     if s.len() < at + (10 + 8 * m) {
-        return unsorted(Reading::Refused(Why::Length));
+        return Err(Why::Length);
     }
     short_commit_of(s, at, keys, clients, m, values)
 }
 
+// A record without operations.
+fn unsorted(whole: Whole) -> Sorted
+    ensures { result ≡ record { whole = whole; ranks = 0 } }
+{
+    Sorted { whole, ranks: 0 }
+}
+
 // The record at a place of the file; where it is a commit its operations are sorted.
-pub fn record_at(s: &[u8], at: usize, keys: usize, clients: usize, values: &mut [u64]) -> Read
+pub fn record_at(
+    s: &[u8],
+    at: usize,
+    keys: usize,
+    clients: usize,
+    values: &mut [u64],
+) -> Result<Sorted, Why>
     requires { (at ≤ length s.now) × (keys ≤ max_keys) × (2 * max_keys ≤ length values.old) }
-    ensures said { RecordSays s.now at keys clients result.reading }
+    ensures said { RecordSays s.now at keys clients (reading_in result) }
     ensures sorted { SortedInto s.now values.old values.new result }
 {
     if s.len() < at + 4 {
-        return unsorted(Reading::Refused(Why::Length));
+        return Err(Why::Length);
     }
-    let kind = endian::u16_at(s, at + 2);
-    if kind == 2 {
-        return unsorted(shift_at(s, at, keys, clients));
+    match endian::u16_at(s, at + 2) {
+        2 => Ok(unsorted(shift_at(s, at, keys, clients)?)),
+        3 => commit_at(s, at, keys, clients, values),
+        5 => short_commit_at(s, at, keys, clients, values),
+        6 => Ok(unsorted(short_shift_at(s, at, keys, clients)?)),
+        _ => Err(Why::Kind),
     }
-    if kind == 3 {
-        return commit_at(s, at, keys, clients, values);
-    }
-    if kind == 5 {
-        return short_commit_at(s, at, keys, clients, values);
-    }
-    if kind == 6 {
-        return unsorted(short_shift_at(s, at, keys, clients));
-    }
-    unsorted(Reading::Refused(Why::Kind))
 }
 
 // The record at a place of the file, where its operations are not asked for.
@@ -446,21 +439,20 @@ pub fn reading_at(s: &[u8], at: usize, keys: usize, clients: usize) -> Reading
     ensures { RecordSays s.now at keys clients result }
 {
     let mut values = [0u64; 2 * store::Store::KEYS];
-    let read = record_at(s, at, keys, clients, &mut values);
-    read.reading
+    Ok(record_at(s, at, keys, clients, &mut values)?.whole)
 }
 
 // A record that is known to be in form, read again without a test.
-pub fn known_at(s: &[u8], at: usize, keys: usize) -> Known
+pub fn known_at(s: &[u8], at: usize, keys: usize) -> Whole
     requires { (clients : ℕ) × InFormAt s.now at keys clients }
-    ensures { (clients : ℕ) → InFormAt s.now at keys clients → RecordSays s.now at keys clients (Reading.Whole result.record result.next) }
+    ensures { (clients : ℕ) → InFormAt s.now at keys clients → RecordSays s.now at keys clients (Ok result) }
 {
     let client = endian::byte_at(s, at + 4);
     let kind = endian::u16_at(s, at + 2);
     if kind == 2 {
         let listing = Listing::Every { masks: at + 6 };
         let record = Record::Shift { client, listing };
-        return Known {
+        return Whole {
             record,
             next: at + (6 + 8 * keys),
         };
@@ -471,7 +463,7 @@ pub fn known_at(s: &[u8], at: usize, keys: usize) -> Known
             masks: at + 10,
         };
         let record = Record::Shift { client, listing };
-        return Known {
+        return Whole {
             record,
             next: at + endian::u16_at(s, at) as usize,
         };
@@ -492,7 +484,7 @@ pub fn known_at(s: &[u8], at: usize, keys: usize) -> Known
             operations: at + 10,
             listing,
         };
-        return Known {
+        return Whole {
             record,
             next: at + endian::u16_at(s, at) as usize,
         };
@@ -505,7 +497,7 @@ pub fn known_at(s: &[u8], at: usize, keys: usize) -> Known
         operations: at + 10,
         listing,
     };
-    Known {
+    Whole {
         record,
         next: masks + 8 * keys,
     }

@@ -1,10 +1,14 @@
 -- `trace::contents::sort_operations` meets its contract: operations that fit are not refused. Assumes nothing.
-use Rattle.search.proofs.Tests.{true-T, false-T}
-use Rattle.trace.proofs.Sorting.{says-fit, says-unfit}
+use borrow.Author.Rules.{rules}
+use mathlib.Core.Path.{◌≡◌}
+use Rattle.std.specs.Prelude.{Some}
+use Rattle.trace.proofs.Sorting.{says-fit, says-some}
 use Rattle.trace.proofs.contents.sort_operations.Goals as goal
 
-pub returns-in_default : goal.returns-in_default
-returns-in_default c = absurd (false-T _ (says-unfit _ _ _ _ _ c.in_default.is c.sort.ensures.said) (true-T _ c.requires.0.1))
+pub unwrap-requires : goal.unwrap-requires
+unwrap-requires c = says-some _ _ _ _ _ _ c.requires.0.1 c.sort.ensures.said
 
 pub returns : goal.returns
-returns c = (says-fit _ _ _ _ _ c.in-Fit.is c.sort.ensures.said).1
+returns c =
+    let is : c.sort.result ≡ Some c.unwrap.result = search rules in
+    (says-fit _ _ _ _ _ is c.sort.ensures.said).1

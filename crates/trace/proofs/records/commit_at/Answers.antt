@@ -6,7 +6,7 @@ use Rattle.trace.proofs.records.commit_at.Goals as goal
 
 pub returns-then-s-at : goal.returns-then-s-at
 unfolding commit_at reading_of
-returns-then-s-at c = rw c.unsorted.ensures record { said = (λ n. need-unmet _ _ _ (omega tests), tt); sorted = (tt, λ small. small) }
+returns-then-s-at c = record { said = (λ n. need-unmet _ _ _ (omega tests), tt); sorted = (tt, λ small. small) }
 
 pub returns : goal.returns
 unfolding commit_at

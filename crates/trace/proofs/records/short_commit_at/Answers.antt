@@ -6,11 +6,11 @@ use Rattle.trace.proofs.records.short_commit_at.Goals as goal
 
 pub returns-then-s-at : goal.returns-then-s-at
 unfolding short_commit_at short_commit_in reading_of
-returns-then-s-at c = rw c.unsorted.ensures record { said = (λ n. need-unmet _ _ _ (omega tests), tt); sorted = (tt, λ small. small) }
+returns-then-s-at c = record { said = (λ n. need-unmet _ _ _ (omega tests), tt); sorted = (tt, λ small. small) }
 
 pub returns-then-s-at-2 : goal.returns-then-s-at-2
 unfolding short_commit_at short_commit_in reading_of
-returns-then-s-at-2 c = let count = c.byte_at-m.ensures.0 in rw c.unsorted-then-s-at-2.ensures record { said = (λ n. need-met _ _ _ (omega tests) (need-unmet _ _ _ (omega tests)), tt); sorted = (tt, λ small. small) }
+returns-then-s-at-2 c = let count = c.byte_at-m.ensures.0 in record { said = (λ n. need-met _ _ _ (omega tests) (need-unmet _ _ _ (omega tests)), tt); sorted = (tt, λ small. small) }
 
 pub returns : goal.returns
 unfolding short_commit_at short_commit_in
