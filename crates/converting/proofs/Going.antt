@@ -15,13 +15,12 @@ use Rattle.store.proofs.Updated.{at_same, at_other}
 use Rattle.trace.specs.Result.{taken}
 use Rattle.trace.specs.Entry.{listed_or, view_meant, event}
 use Rattle.trace.specs.Format.{Trace, commits_with, decode}
-use Rattle.trace.specs.Meaning.{listing_of, entry_of, ListingFits, RecordSays, InFormAt, WholeFile}
+use Rattle.trace.specs.Meaning.{read_whole, listing_of, entry_of, ListingFits, RecordSays, InFormAt, WholeFile}
 use Rattle.trace.specs.Edition.{Edition, records_bytes, encode_in}
 use Rattle.trace.specs.declared.form.Header.{Header}
 use Rattle.trace.specs.declared.records.Listing.{Listing}
 use Rattle.trace.specs.declared.records.Record.{Record}
 use Rattle.trace.specs.declared.records.Record.TheVariants.{Shift, Commit}
-use Rattle.trace.specs.declared.records.Reading.TheVariants.{Whole}
 use Rattle.trace.proofs.Sizes.{length-file_of}
 use Rattle.state.specs.Places.{client_rows}
 use Rattle.state.specs.Rows.{RowAt}
@@ -112,7 +111,7 @@ module _ (e : Edition) {file : List ℕ} {h : Header} {left at : ℕ} {views : L
   pub first-in-form : 0 < left → InFormAt file at h.keys h.clients
   first-in-form some_left = in-form s.to-come some_left
 
-  module _ (bytes : Bytes file) (few : h.clients ≤ max_clients) (some_left : 0 < left) (x : Record) (next : ℕ) (says : RecordSays file at h.keys h.clients (Whole x next)) where
+  module _ (bytes : Bytes file) (few : h.clients ≤ max_clients) (some_left : 0 < left) (x : Record) (next : ℕ) (says : RecordSays file at h.keys h.clients (read_whole x next)) where
     this : Turn file h left at s.made s.g s.es x next
     this = turn s.to-come bytes few some_left x next says
 
@@ -149,7 +148,7 @@ pub reckoned-first : (e : Edition) {file : List ℕ} {h : Header} (w : WholeFile
 reckoned-first e w t d = record { going = goes-from w; total = length_whole e w t d }
 
 pub reckoned-on : (e : Edition) {file : List ℕ} {h : Header} {t : Trace} {left at sum : ℕ} {views : List ℕ} (s : Reckoned e file h t left at sum views)
-    (bytes : Bytes file) (few : h.clients ≤ max_clients) (some_left : 0 < left) (x : Record) (next : ℕ) (says : RecordSays file at h.keys h.clients (Whole x next))
+    (bytes : Bytes file) (few : h.clients ≤ max_clients) (some_left : 0 < left) (x : Record) (next : ℕ) (says : RecordSays file at h.keys h.clients (read_whole x next))
     {after : List ℕ} {size : ℕ} → ((g : Configuration) → ViewRows g h.keys views → size ≡ length (bytes_of e file h.keys g x))
     → ((g : Configuration) → ViewRows g h.keys views → ViewRows (step g (event g (entry_of file h.keys x))) h.keys after)
     → Reckoned e file h t (left - 1) next (sum + size) after
@@ -183,7 +182,7 @@ written-first e w t d start room = record {
 }
 
 module _ (e : Edition) {file start : List ℕ} {h : Header} {t : Trace} {left at to : ℕ} {buffer views : List ℕ} (s : Written e file start h t left at to buffer views)
-    (bytes : Bytes file) (few : h.clients ≤ max_clients) (some_left : 0 < left) (x : Record) (next : ℕ) (says : RecordSays file at h.keys h.clients (Whole x next)) where
+    (bytes : Bytes file) (few : h.clients ≤ max_clients) (some_left : 0 < left) (x : Record) (next : ℕ) (says : RecordSays file at h.keys h.clients (read_whole x next)) where
   -- there is room for the record
   pub written-room : to + length (bytes_of e file h.keys s.going.g x) ≤ length buffer
   written-room =

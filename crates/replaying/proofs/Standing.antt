@@ -13,10 +13,9 @@ use Rattle.trace.specs.Result.{taken}
 use Rattle.trace.specs.Entry.{event}
 use Rattle.trace.specs.Format.{Trace, decode}
 use Rattle.trace.specs.Encode.{events_bytes}
-use Rattle.trace.specs.Meaning.{entry_of, RecordSays, InFormAt, WholeFile}
+use Rattle.trace.specs.Meaning.{read_whole, entry_of, RecordSays, InFormAt, WholeFile}
 use Rattle.trace.specs.declared.form.Header.{Header}
 use Rattle.trace.specs.declared.records.Record.{Record}
-use Rattle.trace.specs.declared.records.Reading.TheVariants.{Whole}
 use Rattle.trace.proofs.Sizes.{events_length, length-events_bytes, length-encode}
 use Rattle.trace.proofs.Decoded.{decoded-well-formed}
 use Rattle.answer.specs.Replay.{replay_step, replay_events, replay_trace, replay}
@@ -51,7 +50,7 @@ module _ {file : List ℕ} {h : Header} {left at : ℕ} (s : Going file h left a
   pub first-in-form : 0 < left → InFormAt file at h.keys h.clients
   first-in-form some_left = in-form s.to-come some_left
 
-  module _ (bytes : Bytes file) (few : h.clients ≤ max_clients) (some_left : 0 < left) (x : Record) (next : ℕ) (says : RecordSays file at h.keys h.clients (Whole x next)) where
+  module _ (bytes : Bytes file) (few : h.clients ≤ max_clients) (some_left : 0 < left) (x : Record) (next : ℕ) (says : RecordSays file at h.keys h.clients (read_whole x next)) where
     -- the record at hand
     pub this : Turn file h left at s.r.store.commits s.g s.es x next
     this = turn s.to-come bytes few some_left x next says
@@ -140,7 +139,7 @@ written-first {file} {h} w t d start room = record {
 
 -- a record more
 pub written_on : {file start : List ℕ} {h : Header} {t : Trace} {left at to : ℕ} {buffer masks : List ℕ} (s : Written file start h t left at to buffer masks)
-    (bytes : Bytes file) (few : h.clients ≤ max_clients) (some_left : 0 < left) (x : Record) (next : ℕ) (says : RecordSays file at h.keys h.clients (Whole x next))
+    (bytes : Bytes file) (few : h.clients ≤ max_clients) (some_left : 0 < left) (x : Record) (next : ℕ) (says : RecordSays file at h.keys h.clients (read_whole x next))
     → {after grown : List ℕ} {end : ℕ} → ((g r : Configuration) → Full r.store h.keys masks → Wrote h.keys r (event g (entry_of file h.keys x)) to buffer after grown)
     → end ≡ to + replay_length h.keys x → length after ≡ length buffer → Written file start h t (left - 1) next end after grown
 written_on {h = h} {buffer = buffer} s bytes few some_left x next says {after} wrote e same =

@@ -12,7 +12,7 @@ use Rattle.store.specs.Update.{step}
 use Rattle.store.specs.Refusal.{refuses_event}
 use Rattle.trace.specs.Entry.{view_meant, event}
 use Rattle.trace.specs.Format.{Header, commits_with}
-use Rattle.trace.specs.Meaning.{listing_of, entry_of, reading_of, PlacesFit, RecordSays}
+use Rattle.trace.specs.Meaning.{read_whole, listing_of, entry_of, reading_of, PlacesFit, RecordSays}
 use Rattle.trace.proofs.Decoded.{ReadAt, record-read}
 use Rattle.trace.specs.Sorted.{RecordSorted}
 use Rattle.trace.specs.WellFormed.{FitsEvent}
@@ -20,7 +20,6 @@ use Rattle.trace.proofs.Entries.{sound-fits, opening-fits}
 use Rattle.trace.specs.declared.records.Listing.{Listing}
 use Rattle.trace.specs.declared.records.Record.{Record}
 use Rattle.trace.specs.declared.records.Record.TheVariants.{Shift, Commit}
-use Rattle.trace.specs.declared.records.Reading.TheVariants.{Whole}
 use Rattle.levels.specs.Level.{Level, Failure, fails_event}
 use Rattle.state.specs.Keeps.{KeepsViews}
 use Rattle.verdicts.specs.Verdicts.{KeepsVerdict, KeepsVerdicts}
@@ -34,7 +33,7 @@ use Rattle.run.specs.OneRecord.{Readable, Standing, Fitting}
 -- ---- the record as it was read
 
 -- what is read of a file of bytes lies in it
-pub record-readable : (file : List ℕ) → Bytes file → (at n clients made : ℕ) (r : Record) (next : ℕ) → clients ≤ max_clients → RecordSays file at n clients (Whole r next)
+pub record-readable : (file : List ℕ) → Bytes file → (at n clients made : ℕ) (r : Record) (next : ℕ) → clients ≤ max_clients → RecordSays file at n clients (read_whole r next)
     → commits_with (entry_of file n r) made ≤ max_commits → Readable file n made r
 unfolding entry_of reading_of PlacesFit event
 record-readable file bytes at n clients made (Shift client l) next few (means, places) room =

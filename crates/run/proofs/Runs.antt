@@ -2,12 +2,10 @@
 use Prim.Native.Nat.{ℕ, ◌+◌, ◌-◌, ◌≤◌, ◌<◌}
 use mathlib.Core.Path.{◌≡◌, refl, sym, ap, ◌∙◌, subst}
 use mathlib.Core.Option.{Option, some, none}
-use mathlib.Core.Logic.{◌≢◌}
 use mathlib.Core.List.{List}
 use native.Mathlib.Omega.{arith}
 use lib.ListN.{length}
 use Rattle.search.specs.Choose.{or_else}
-use Rattle.search.proofs.Choose.{choose-ind}
 use Rattle.sets.specs.Set.{Set}
 use Rattle.endian.specs.Endian.{Bytes}
 use Rattle.store.specs.Limits.{max_clients, max_commits, min_bytes}
@@ -19,22 +17,16 @@ use Rattle.store.specs.Sound.{Sound, WithinKeys}
 use Rattle.store.specs.View.{FitsView}
 use Rattle.trace.specs.Entry.{Entry, shifting, committing, over, commit_meant, event, events_of}
 use Rattle.trace.specs.Format.{Header, commits_with, entries_from}
-use Rattle.trace.specs.Meaning.{why_number, entry_of, reading_of, RecordSays, counted_of, FormSays, AllRecordsSay, RestSays}
-use Rattle.trace.specs.Sorted.{RecordSorted, ReadingSorted}
+use Rattle.trace.specs.Result.{Result}
+use Rattle.trace.specs.Meaning.{entry_of, Reading, read_whole, reading_of, RecordSays, counted_of, Form, header_of, FormSays, RestSays}
 use Rattle.trace.specs.declared.records.Record.{Record}
-use Rattle.trace.specs.declared.records.Why.{Why}
-use Rattle.trace.specs.declared.records.Why.TheVariants.{Many}
-use Rattle.trace.specs.declared.records.Reading.{Reading}
-use Rattle.trace.specs.declared.records.Reading.TheVariants.{Whole, Refused as Unread}
 use Rattle.trace.specs.declared.form.Header.{Header as CodeHeader}
-use Rattle.trace.specs.declared.form.Form.{Form}
-use Rattle.trace.specs.declared.form.Form.TheVariants as Forms
 use Rattle.trace.proofs.Decoded.{ReadAt, record-read}
 use Rattle.trace.specs.WellFormed.{FitsEntry}
 use Rattle.trace.proofs.Entries.{sound-fits}
 use Rattle.trace.proofs.Fits.{commit-fits}
-use Rattle.trace.proofs.InForm.{Follows, follows_itself, follows_then, First, entries-first, nothing_left}
-use Rattle.trace.proofs.Pass.{place-within, CountedSays, counted-says, then-follows, all-stopped, all_read, bytes_left, follows-form}
+use Rattle.trace.proofs.InForm.{First, entries-first, nothing_left}
+use Rattle.trace.proofs.Pass.{CountedSays, counted-says, InTurn, follows-form}
 use Rattle.levels.specs.Level.{Level, Failure, fails_event}
 use Rattle.state.specs.declared.Refusal.{Refusal}
 use Rattle.state.specs.Answers.{refusal_of}
@@ -45,8 +37,7 @@ use Rattle.shifts.specs.declared.Outcome.TheVariants.{Taken, Refused}
 use Rattle.shifts.specs.Outcomes.{outcome_of}
 use Rattle.commits.specs.Records.{ValuesFit, EventDone}
 use Rattle.run.specs.Along.{Along}
-use Rattle.run.specs.Ran.{header_with, form_of, stopped_by, Starts, Ended, RanSays}
-use Rattle.run.specs.declared.Ran.{Ran}
+use Rattle.run.specs.Ran.{header_with, Starts, Ended}
 use Rattle.run.specs.OneRecord.{Standing, Fitting}
 use Rattle.run.proofs.Along.{along-start, commits-after, along-refused, along-end, along-shift, along-commit}
 
@@ -55,70 +46,17 @@ header n clients records = record { keys = n; clients = clients; records = recor
 
 -- ---- the form of the records, as the run reads them
 
--- the record at `at` is the next to be read, the one with this number, `left` are left and `made` commits came before them: what they come to, all records come to
-pub record InTurn (file : List ℕ) (n clients records left at number made : ℕ) : Type 0 where
-  pub within : at ≤ length file
-  pub few-made : made ≤ max_commits
-  pub follows : Follows (entries_from file (header n clients records) left at number made) (entries_from file (header n clients records) records min_bytes 1 0)
-
-pub turn-starts : {file : List ℕ} {n clients records : ℕ} → min_bytes ≤ length file → InTurn file n clients records records min_bytes 1 0
-turn-starts long = record { within = long; few-made = omega arith; follows = follows_itself _ }
-
 -- a record as it was read in its turn
-pub as_read : (file : List ℕ) (at n clients number made : ℕ) (x : Reading) → RecordSays file at n clients x → {y : Reading} → ((s : List ℕ) (keys : ℕ) → y ≡ counted_of s keys made x)
-    → {z : Reading} → y ≡ z → CountedSays file at n clients number made z
-as_read file at n clients number made x says counted is =
-    subst (CountedSays file at n clients number made) (sym (counted file n) ∙ is) (counted-says file at n clients number made x says)
+pub read-turn : (file : List ℕ) (at n clients number made : ℕ) {y : Reading} → ((x : Reading) × RecordSays file at n clients x × (y ≡ counted_of file n made x)) → {z : Reading} → y ≡ z
+    → CountedSays file at n clients number made z
+read-turn file at n clients number made (x, says, counted) is = subst (CountedSays file at n clients number made) (sym counted ∙ is) (counted-says file at n clients number made x says)
 
--- it is sorted as what was read is
-counted-sorted : (file : List ℕ) (made : ℕ) (ranks : Set) (values : List ℕ) (x : Reading) → ReadingSorted file ranks values x → ReadingSorted file ranks values (counted_of file 0 made x)
-unfolding counted_of
-counted-sorted file made ranks values (Unread w) sorted = tt
-counted-sorted file made ranks values (Whole r next) sorted = choose-ind (ReadingSorted file ranks values) _ (Whole r next) (Unread Many) (λ t. sorted) (λ t. tt)
-
-pub as-sorted : (file : List ℕ) (made : ℕ) (ranks : Set) (values : List ℕ) (x : Reading) → ReadingSorted file ranks values x → {y : Reading} → ((s : List ℕ) (keys : ℕ) → y ≡ counted_of s keys made x)
-    → {r : Record} {next : ℕ} → y ≡ Whole r next → RecordSorted file ranks values r
-as-sorted file made ranks values x sorted counted is = subst (ReadingSorted file ranks values) (sym (counted file 0) ∙ is) (counted-sorted file made ranks values x sorted)
-
-module _ {file : List ℕ} {n clients records left at number made : ℕ} (t : InTurn file n clients records left at number made) where
-  -- it is refused
-  pub turn-stops : 0 < left → (w : Why) → CountedSays file at n clients number made (Unread w) → {code : ℕ} → code ≡ why_number w
-      → AllRecordsSay file (header_with n clients records) (Forms.Misshapen code number)
-  turn-stops some_left w says is = rw is (all-stopped file (header_with n clients records) _ at number made left t.follows w some_left says)
-
-  -- it is there, and the next one is to be read
-  pub turn-goes : 0 < left → (r : Record) (next : ℕ) → CountedSays file at n clients number made (Whole r next) → {count : ℕ} → count ≡ commits_with (entry_of file n r) made
-      → InTurn file n clients records (left - 1) next (number + 1) count
-  turn-goes some_left r next says counted = rw counted (record {
-    within = place-within file n at (Whole r next) t.within says.0.1;
-    few-made = says.1;
-    follows = follows_then (then-follows file (header n clients records) at number made left r next some_left says) t.follows;
-  })
-
-  -- no record is left
-  pub turn-ends : left ≡ 0 → at ≡ length file → AllRecordsSay file (header_with n clients records) (Forms.Whole (header_with n clients records))
-  turn-ends none_left e = all_read file (header_with n clients records) _ at number made left t.follows none_left e
-
-  pub turn-over : left ≡ 0 → at ≢ length file → AllRecordsSay file (header_with n clients records) (Forms.Misshapen 5 records)
-  turn-over none_left e = bytes_left file (header_with n clients records) _ at number made left t.follows none_left e
-
-  -- the form of the records that are left is that of all
-  pub turn-rest : number + left ≡ records + 1 → (f : Form) → RestSays file (header_with n clients records) at number made f → AllRecordsSay file (header_with n clients records) f
-  turn-rest numbered f says =
-      let so-many : records + 1 - number ≡ left = omega arith in
-      follows-form (header_with n clients records) f t.follows
-      (subst (λ (k : ℕ). FormSays (entries_from file (header n clients records) k at number made) (header_with n clients records) f) so-many says)
-
--- the meaning of a record is refused: what the run comes to then is by the form of all records
-pub stopped-form : (file : List ℕ) (h : CodeHeader) (f : Form) (x : Refusal) → AllRecordsSay file h f → {r : Ran} → r ≡ stopped_by f x → AllRecordsSay file h (form_of h r)
-unfolding FormSays
-stopped-form file h (Forms.Misshapen code k) x says is = rw is says
-stopped-form file h (Forms.Whole g) x says is = rw is (refl, says.1, says.2)
-
-pub stopped-meaning : (n : ℕ) (es : List Event) (versions keys views seen sessions commits links verdicts : List ℕ) (f : Form) (x : Refusal) → first_along refuses_event 1 (opening n) es ≡ some (refusal_of x)
-    → {r : Ran} → r ≡ stopped_by f x → RanSays n es versions keys views seen sessions commits links verdicts r
-stopped-meaning n es versions keys views seen sessions commits links verdicts (Forms.Misshapen code k) x first is = rw is tt
-stopped-meaning n es versions keys views seen sessions commits links verdicts (Forms.Whole g) x first is = rw is first
+-- the form of the records that are left is that of all
+pub turn-rest : {file : List ℕ} {h : CodeHeader} {all : Result (List Entry)} {left at number made : ℕ} → InTurn file h all left at number made → number + left ≡ h.records + 1
+    → (f : Form) → RestSays file h at number made f → FormSays all h f
+turn-rest {file} {h} {all} {left} {at} {number} {made} t numbered f says =
+    let so-many : h.records + 1 - number ≡ left = omega arith in
+    follows-form h f t.follows (subst (λ (k : ℕ). FormSays (entries_from file (header_of h) k at number made) h f) so-many says)
 
 -- ---- the meaning of the records, where they are in form
 
@@ -195,8 +133,8 @@ module _ {file : List ℕ} {n clients records : ℕ} {rs : List Entry} where
       small = s.small;
     }
 
-    module _ (bytes : Bytes file) (few-clients : clients ≤ max_clients) (some_left : 0 < left) (r : Record) (next : ℕ) (says : RecordSays file at n clients (Whole r next)) where
-      read_again : ReadAt file (header n clients records) (reading_of file n (Whole r next))
+    module _ (bytes : Bytes file) (few-clients : clients ≤ max_clients) (some_left : 0 < left) (r : Record) (next : ℕ) (says : RecordSays file at n clients (read_whole r next)) where
+      read_again : ReadAt file (header n clients records) (reading_of file n (read_whole r next))
       read_again = subst (ReadAt file (header n clients records)) (sym (says.0 records)) (record-read file bytes (header n clients records) at)
 
       -- what it says fits

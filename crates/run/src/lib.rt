@@ -4,38 +4,56 @@
 
 mod one; // one.rt: one record
 
-ghost use Rattle.std.specs.Prelude.{◌≡◌, ◌^◌, ◌≤◌, ◌<◌, List, length};
-ghost use Rattle.store.specs.Limits.{max_keys, max_clients, min_bytes, max_bytes};
+ghost use Rattle.std.specs.Prelude.{◌≡◌, ◌*◌, ◌^◌, ◌≤◌, ◌<◌, List, length};
+ghost use Rattle.store.specs.Limits.{max_keys, max_clients, max_commits, min_bytes, max_bytes};
 ghost use Rattle.store.specs.Store.{opening};
 ghost use Rattle.trace.specs.Entry.{Entry, events_of};
 ghost use Rattle.state.specs.Room.{Room, ValuesRoom, FreshRoom};
 ghost use Rattle.verdicts.specs.Verdicts.{VerdictsRoom};
-ghost use Rattle.trace.specs.Meaning.{AllRecordsSay};
-ghost use Rattle.run.specs.Ran.{header_with, stopped_by, form_of, Starts, RanSays};
+ghost use Rattle.trace.specs.Meaning.{Reading, RecordSays, counted_of, AllRecordsSay};
+ghost use Rattle.trace.specs.Sorted.{reading_in, SortedInto};
+ghost use Rattle.run.specs.declared.Stop.TheVariants as Stops;
+ghost use Rattle.run.specs.Ran.{header_with, form_of, Starts, RanSays};
 
 use commits::Engine;
 use one::one_record;
 use shifts::Outcome;
 use state::Refusal;
-use trace::form::{Form, Header};
-use trace::records::Reading;
+use trace::form::{Header, Misshapen, counted, records_form, refused_at};
+use trace::records;
+use trace::records::{Sorted, Why};
 
-// What the run of a trace comes to: all records are done, with so many commits; or one means what is refused, and all are in form; or one is not in form.
+// Why a run stops: a record is not in form, or the meaning of one is refused and all records are in form.
 #[derive(Clone, Copy)]
-pub enum Ran {
-    Done { commits: usize },
+pub enum Stop {
+    Misshapen(Misshapen),
     Refused(Refusal),
-    Misshapen { code: usize, record: usize },
 }
 
-// "form over all records in turn .. 5; then meaning over all records": the refusal of a meaning, where this is the form of the records after it.
-fn stopped(form: Form, refusal: Refusal) -> Ran
-    ensures { result ≡ stopped_by form refusal }
-{
-    match form {
-        Form::Misshapen { code, record } => Ran::Misshapen { code, record },
-        Form::Whole(_) => Ran::Refused(refusal),
+impl From<Misshapen> for Stop {
+    ghost from_gives = { λ m s. s ≡ Stops.Misshapen m };
+
+    fn from(m: Misshapen) -> Stop {
+        Stop::Misshapen(m)
     }
+}
+
+// The record at a place in its turn, after so many commits (code 8), with its operations sorted.
+fn read_turn(
+    file: &[u8],
+    at: usize,
+    n: usize,
+    clients: usize,
+    made: usize,
+    values: &mut [u64],
+) -> Result<Sorted, Why>
+    requires { (at ≤ length file.now) × (n ≤ max_keys) × (made ≤ max_commits) × (2 * max_keys ≤ length values.old) }
+    ensures said { (x : Reading) × RecordSays file.now at n clients x × (reading_in result ≡ counted_of file.now n made x) }
+    ensures sorted { SortedInto file.now values.old values.new result }
+{
+    let sorted = records::record_at(file, at, n, clients, values)?;
+    counted(Ok(sorted.whole), made)?;
+    Ok(sorted)
 }
 
 // The run of the records of a file with a header, from the opening arrays on, up to the end or to the first record that is refused. The form of a record is
@@ -56,7 +74,7 @@ pub fn run_all(
     values: &mut [u64],
     fresh: &mut [u64],
     engine: Engine,
-) -> Ran
+) -> Result<usize, Stop>
     requires le_n { (1 ≤ n) × (n ≤ max_keys) × (clients ≤ max_clients) × (min_bytes ≤ length file.now) × (length file.now ≤ max_bytes) × (records < 2 ^ 16) }
     requires values_room { ValuesRoom values.old × FreshRoom fresh.old × VerdictsRoom verdicts.old }
     requires room { Room versions.old keys.old views.old seen.old sessions.old commits.old links.old }
@@ -66,43 +84,34 @@ pub fn run_all(
         → RanSays n (events_of (opening n) rs) versions.new keys.new views.new seen.new sessions.new commits.new links.new verdicts.new result }
 {
     let mut at = store::Store::HEADER;
-    let mut number: usize = 1;
     let mut made: usize = 0;
-    let mut left = records;
-    while 0 < left {
-        let read = trace::records::record_at(file, at, n, clients, values);
-        let first = read.reading;
-        let reading = trace::form::counted(first, made);
-        let Reading::Whole { record, next } = reading else {
-            return Ran::Misshapen {
-                code: trace::records::refusal(reading),
-                record: number,
-            };
+    for number in 1..records + 1 {
+        let read = match read_turn(file, at, n, clients, made, values) {
+            Ok(read) => read,
+            Err(why) => return Err(Stop::Misshapen(refused_at(why, number))),
         };
-        let count = trace::records::commits_with(record, made);
+        let record = read.whole.record;
         let outcome = one_record(
             file, record, read.ranks, number, made, versions, keys, views, seen, sessions, commits,
             links, verdicts, values, fresh, n, engine,
         );
+        made = records::commits_with(record, made);
+        at = read.whole.next;
         if let Outcome::Refused(refusal) = outcome {
             let header = Header {
                 keys: n,
                 clients,
                 records,
             };
-            let rest = trace::form::records_form(file, header, next, number + 1, count);
-            return stopped(rest, refusal);
+            records_form(file, header, at, number + 1, made)?;
+            return Err(Stop::Refused(refusal));
         }
-        made = count;
-        at = next;
-        number = number + 1;
-        left = left - 1;
     }
     if at != file.len() {
-        return Ran::Misshapen {
+        return Err(Stop::Misshapen(Misshapen {
             code: 5,
             record: records,
-        };
+        }));
     }
-    Ran::Done { commits: made }
+    Ok(made)
 }

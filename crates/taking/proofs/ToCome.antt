@@ -10,10 +10,9 @@ use Rattle.store.specs.Update.{step}
 use Rattle.trace.specs.Result.{taken}
 use Rattle.trace.specs.Entry.{Entry, event, events_of}
 use Rattle.trace.specs.Format.{Trace, commits_with, entries_from, decode}
-use Rattle.trace.specs.Meaning.{entry_of, reading_of, RecordSays, InFormAt, header_of, WholeFile}
+use Rattle.trace.specs.Meaning.{read_whole, entry_of, reading_of, RecordSays, InFormAt, header_of, WholeFile}
 use Rattle.trace.specs.declared.form.Header.{Header}
 use Rattle.trace.specs.declared.records.Record.{Record}
-use Rattle.trace.specs.declared.records.Reading.TheVariants.{Whole}
 use Rattle.trace.proofs.Result.{taken-injective}
 use Rattle.trace.proofs.Decoded.{ReadAt, record-read}
 use Rattle.trace.proofs.InForm.{first-in-form, entries-first, nothing_left}
@@ -56,13 +55,13 @@ module _ {file : List ℕ} {h : Header} {left at made : ℕ} {g : Configuration}
   in-form some_left = first-in-form file (header_of h) at s.index made left some_left s.read
 
   -- where it was read again, the others follow it
-  pub turn : Bytes file → h.clients ≤ max_clients → 0 < left → (r : Record) (next : ℕ) → RecordSays file at h.keys h.clients (Whole r next)
+  pub turn : Bytes file → h.clients ≤ max_clients → 0 < left → (r : Record) (next : ℕ) → RecordSays file at h.keys h.clients (read_whole r next)
       → Turn file h left at made g es r next
   unfolding reading_of events_of
   turn bytes few some_left r next says =
       let x = entry_of file h.keys r in
       let first = entries-first file (header_of h) at s.index made left some_left s.read x next (says.0 h.records) in
-      let again : ReadAt file (header_of h) (reading_of file h.keys (Whole r next)) = subst (ReadAt file (header_of h)) (sym (says.0 h.records)) (record-read file bytes (header_of h) at) in
+      let again : ReadAt file (header_of h) (reading_of file h.keys (read_whole r next)) = subst (ReadAt file (header_of h)) (sym (says.0 h.records)) (record-read file bytes (header_of h) at) in
       record {
         others = events_of (step g (event g x)) first.others;
         is-first = s.mean ∙ ap (events_of g) first.is-first;

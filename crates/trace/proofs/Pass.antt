@@ -75,13 +75,13 @@ IsWhole : Reading → Type 0
 IsWhole (Ok w) = Unit {0}
 IsWhole (Err y) = ⊥
 
--- the next place is that of the record
-pub counted-place : (s : List ℕ) (keys commits at : ℕ) (x : Reading) {w : Whole} → counted_of s keys commits x ≡ Ok w → place_after x at ≡ w.next
+-- one that is not refused is what was read
+pub counted-kept : (s : List ℕ) (keys commits : ℕ) (x : Reading) {w : Whole} → counted_of s keys commits x ≡ Ok w → counted_of s keys commits x ≡ x
 unfolding counted_of IsWhole
-counted-place s keys commits at (Err y) is = absurd (subst IsWhole (sym is) tt)
-counted-place s keys commits at (Ok v) {w} is =
-    choose-ind (λ (z : Reading). z ≡ Ok w → v.next ≡ w.next) (leb (commits_with (entry_of s keys v.record) commits) max_commits) (Ok v) (Err Many)
-    (λ t e. ap (λ (z : Reading). place_after z 0) e) (λ t e. absurd (subst IsWhole (sym e) tt)) is
+counted-kept s keys commits (Err y) is = refl
+counted-kept s keys commits (Ok v) {w} is =
+    choose-ind (λ (z : Reading). z ≡ Ok w → z ≡ Ok v) (leb (commits_with (entry_of s keys v.record) commits) max_commits) (Ok v) (Err Many)
+    (λ t e. refl) (λ t e. absurd (subst IsWhole (sym e) tt)) is
 
 -- the records after one that was read in its turn: what they come to, it comes to with them
 pub then-follows : (s : List ℕ) (h : Format.Header) (at index commits left : ℕ) (r : Record) (next : ℕ) → 0 < left → CountedSays s at h.keys h.clients index commits (read_whole r next)
@@ -135,3 +135,8 @@ pub follows-form : {x y : Result (List Entry)} (h : Header) (f : Form) → Follo
 unfolding FormSays
 follows-form h (Err m) follows e = follows.refusal _ e
 follows-form h (Ok g) follows (same, rs, e) = let (all, read) = follows.value rs e in (same, all, read)
+
+-- where some header is that of a file in form, it is the file's
+pub form-whole : (x : Result (List Entry)) (h g : Header) → FormSays x h (Ok g) → FormSays x h (Ok h)
+unfolding FormSays
+form-whole x h g (same, rs, e) = (refl, rs, e)

@@ -4,8 +4,7 @@ use mathlib.Core.Path.{◌≡◌, refl, ◌∙◌}
 use native.Mathlib.Omega.{arith}
 use lib.ListN.{length}
 use Rattle.endian.specs.Endian.{Bytes}
-use Rattle.trace.specs.Meaning.{RecordSays}
-use Rattle.trace.specs.declared.records.Reading.TheVariants.{Whole}
+use Rattle.trace.specs.Meaning.{read_whole, RecordSays}
 use Rattle.converting.specs.Answers.{edition_of}
 use Rattle.converting.proofs.Going.{first-in-form, this-parts, written-first, written-room, written_on, written_all}
 use Rattle.converting.proofs.records.write.Goals as goal
@@ -19,7 +18,7 @@ some_left : (c : goal.After-known_at-known) → 0 < c.loop-left.left
 some_left c = omega (arith, c.loop-left-test.true)
 
 says : (c : goal.After-known_at-known) → let a = c.args in
-    RecordSays a.file.now c.loop-left.at a.h.keys a.h.clients (Whole c.known_at-known.result.record c.known_at-known.result.next)
+    RecordSays a.file.now c.loop-left.at a.h.keys a.h.clients (read_whole c.known_at-known.result.record c.known_at-known.result.next)
 says c =
     let w = c.requires.0 in
     c.known_at-known.ensures _ (first-in-form (edition_of c.args.edition) (c.loop-left.invariant.3 _ w.decoded).going (some_left c))

@@ -4,8 +4,7 @@ use mathlib.Core.Path.{◌≡◌}
 use native.Mathlib.Omega.{arith}
 use Rattle.endian.specs.Endian.{Bytes}
 use Rattle.store.specs.Limits.{max_replay}
-use Rattle.trace.specs.Meaning.{RecordSays}
-use Rattle.trace.specs.declared.records.Reading.TheVariants.{Whole}
+use Rattle.trace.specs.Meaning.{read_whole, RecordSays}
 use Rattle.replaying.specs.Full.{replay_length}
 use Rattle.replaying.proofs.Standing.{first-in-form, goes_on, length-on, reckoned-first, reckoned-few, reckoned-all}
 use Rattle.replaying.proofs.records.size.Goals as goal
@@ -19,7 +18,7 @@ some_left : (c : goal.After-known_at-known) → 0 < c.loop-left.left
 some_left c = omega (arith, c.loop-left-test.true)
 
 says : (c : goal.After-known_at-known) → let a = c.args in
-    RecordSays a.file.now c.loop-left.at a.h.keys a.h.clients (Whole c.known_at-known.result.record c.known_at-known.result.next)
+    RecordSays a.file.now c.loop-left.at a.h.keys a.h.clients (read_whole c.known_at-known.result.record c.known_at-known.result.next)
 says c =
     let w = c.requires in
     c.known_at-known.ensures _ (first-in-form (c.loop-left.invariant _ w.decoded).going (some_left c))

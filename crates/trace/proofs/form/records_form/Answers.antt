@@ -1,9 +1,9 @@
 -- `trace::form::records_form` meets its contract: before each record the reader stands where the records so far leave it. Assumes nothing.
 use Prim.Native.Nat.{◌+◌, ◌-◌, ◌<◌}
-use mathlib.Core.Path.{◌≡◌, sym, ◌∙◌}
+use mathlib.Core.Path.{◌≡◌, sym, ap, ◌∙◌}
 use native.Mathlib.Omega.{arith}
-use Rattle.trace.specs.Meaning.{RecordSays}
-use Rattle.trace.proofs.Pass.{as_read, counted-place, turn-goes, turn-stops, turn-ends, turn-over}
+use Rattle.trace.specs.Meaning.{place_after, RecordSays}
+use Rattle.trace.proofs.Pass.{as_read, counted-kept, turn-goes, turn-stops, turn-ends, turn-over}
 use Rattle.trace.proofs.form.records_form.Goals as goal
 use Rattle.trace.proofs.form.records_form.Goals.{After-counted}
 
@@ -24,7 +24,8 @@ pub loop-number-preserved : goal.loop-number-preserved
 loop-number-preserved c =
     let k = (goal.at.loop-number-preserved c).After-counted in
     let says = as_read c.args.s.now c.loop-number.r.at c.args.h.keys c.args.h.clients c.loop-number.number c.loop-number.made c.next.result (read k) c.counted.ensures c.in-Ok.is in
-    let place = counted-place c.args.s.now c.args.h.keys c.loop-number.made c.loop-number.r.at c.next.result (sym (c.counted.ensures c.args.s.now c.args.h.keys) ∙ c.in-Ok.is) in
+    let counted = sym (c.counted.ensures c.args.s.now c.args.h.keys) ∙ c.in-Ok.is in
+    let place = ap (λ x. place_after x c.loop-number.r.at) (sym (counted-kept c.args.s.now c.args.h.keys c.loop-number.made c.next.result counted) ∙ counted) in
     let left : c.args.h.records + 1 - (c.loop-number.number + 1) ≡ c.args.h.records + 1 - c.loop-number.number - 1 = omega arith in
     rw (c.next.ensures.1, place, left) (c.loop-number.invariant.0, turn-goes c.loop-number.invariant.1 (some_left k) _ _ says (c.commits_with-made.ensures c.args.s.now c.args.h.keys))
 
