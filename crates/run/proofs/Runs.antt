@@ -1,4 +1,5 @@
 -- Where a run stands with its arrays: how it begins, goes on, is refused, and ends. Assumes nothing.
+use Rattle.std.specs.Prelude.{Result, Ok, Err}
 use Prim.Native.Nat.{ℕ, ◌+◌, ◌-◌, ◌≤◌, ◌<◌}
 use mathlib.Core.Path.{◌≡◌, refl, sym, ap, ◌∙◌, subst}
 use mathlib.Core.Option.{Option, some, none}
@@ -40,8 +41,6 @@ use Rattle.state.specs.declared.Refusal.{Refusal}
 use Rattle.state.specs.Answers.{refusal_of}
 use Rattle.state.specs.Keeps.{Keeps}
 use Rattle.verdicts.specs.Verdicts.{KeepsVerdict, KeepsVerdicts}
-use Rattle.shifts.specs.declared.Outcome.{Outcome}
-use Rattle.shifts.specs.declared.Outcome.TheVariants.{Taken, Refused}
 use Rattle.shifts.specs.Outcomes.{outcome_of}
 use Rattle.commits.specs.Records.{ValuesFit, EventDone}
 use Rattle.run.specs.Along.{Along}
@@ -222,14 +221,14 @@ module _ {file : List ℕ} {n clients records : ℕ} {rs : List Entry} where
           along-commit file (header n clients records) (events_of (opening n) rs) left at number s.g s.rest s.fs s.along d v os l next first
           (subst (λ (k : ℕ). WithinKeys k c) (sym s.along.keys-are) (commit-fits n clients c fits)) (omega (arith, fits.client-below)) q
 
-      module _ (versions' keys' views' seen' sessions' commits' links' verdicts' values' : List ℕ) (o : Outcome)
+      module _ (versions' keys' views' seen' sessions' commits' links' verdicts' values' : List ℕ) (o : Result (Unit {0}) Refusal)
           (answer : (g : Configuration) (fs : Level → Option Failure) (clients : ℕ) → Fitting file n clients r
           → Standing g fs n made versions keys views seen sessions commits links verdicts values
           → EventDone number g fs (event g (entry_of file n r)) versions' keys' views' seen' sessions' commits' links' verdicts' values' o) where
         done : EventDone number s.g s.fs (event s.g (entry_of file n r)) versions' keys' views' seen' sessions' commits' links' verdicts' values' o
         done = answer s.g s.fs clients (record { few-clients = few-clients; fits = fits }) standing
 
-        pub run-goes : {count : ℕ} → o ≡ Taken → count ≡ commits_with (entry_of file n r) made
+        pub run-goes : {count : ℕ} → o ≡ Ok tt → count ≡ commits_with (entry_of file n r) made
             → Stands file n clients records rs (left - 1) next (number + 1) count versions' keys' views' seen' sessions' commits' links' verdicts' values'
         run-goes {count} q counted =
             let (keeps, failures) = done.kept q in
@@ -244,7 +243,7 @@ module _ {file : List ℕ} {n clients records : ℕ} {rs : List Entry} where
               small = done.small;
             }
 
-        pub run-stops : {x : Refusal} → o ≡ Refused x
+        pub run-stops : {x : Refusal} → o ≡ Err x
             → first_along refuses_event 1 (opening n) (events_of (opening n) rs) ≡ some (refusal_of x)
         run-stops q =
             along-refused file (header n clients records) (events_of (opening n) rs) left at number s.g s.rest s.fs s.along (entry_of file n r) first.others first.is-first _

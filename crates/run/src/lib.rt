@@ -15,7 +15,6 @@ ghost use Rattle.run.specs.Ran.{header_with, stopped_by, form_of, Starts, RanSay
 
 use commits::Engine;
 use one::one_record;
-use shifts::Outcome;
 use state::Refusal;
 use trace::form::{Form, Header};
 use trace::records::Reading;
@@ -84,7 +83,7 @@ pub fn run_all(
             file, record, read.ranks, number, made, versions, keys, views, seen, sessions, commits,
             links, verdicts, values, fresh, n, engine,
         );
-        if let Outcome::Refused(refusal) = outcome {
+        if let Err(refusal) = outcome {
             let header = Header {
                 keys: n,
                 clients,

@@ -94,15 +94,15 @@ records_form-rest-requires c =
     let (t, numbered) = next-turn (goal.at.records_form-rest-requires c).After-commits_with-count in
     (t.within, p.1, omega (arith, p.5), omega (arith, numbered), t.few-made)
 
-pub returns-in-Refused : goal.returns-in-Refused
-returns-in-Refused c =
-    let k = (goal.at.returns-in-Refused c).After-commits_with-count in
+pub returns-in-Err : goal.returns-in-Err
+returns-in-Err c =
+    let k = (goal.at.returns-in-Err c).After-commits_with-count in
     let next = next-turn k in
     record {
       form = stopped-form _ _ _ _ (turn-rest next.0 next.1 _ c.records_form-rest.ensures) c.stopped.ensures;
       meaning = λ rs s.
           stopped-meaning _ _ _ _ _ _ _ _ _ _ c.records_form-rest.result _
-          (run-stops (run-reads (c.loop-left.invariant.4 rs s) c.record_at-read.ensures.sorted.1) (bytes k) c.requires.le_n.2 (some_left k) _ _ (says k).0 _ _ _ _ _ _ _ _ _ _ c.one_record-outcome.ensures c.in-Refused.is)
+          (run-stops (run-reads (c.loop-left.invariant.4 rs s) c.record_at-read.ensures.sorted.1) (bytes k) c.requires.le_n.2 (some_left k) _ _ (says k).0 _ _ _ _ _ _ _ _ _ _ c.one_record-outcome.ensures c.in-Err.is)
           c.stopped.ensures;
     }
 
