@@ -1,5 +1,5 @@
 -- The codes of a commit that are asked after it is made, and what is given there. Assumes nothing.
-use Rattle.std.specs.Prelude.{ℕ, ◌≤◌, ◌≡◌, Bool, List, T}
+use Rattle.std.specs.Prelude.{ℕ, ◌≤◌, ◌≡◌, Bool, List, T, Result, Ok, Err}
 use Rattle.std.proofs.Math.Option.{Option, some, none}
 use Rattle.search.specs.Choose.{map_some, or_else}
 use Rattle.sets.specs.Set.{Set}
@@ -14,16 +14,13 @@ use Rattle.store.specs.Image.{ClientsFit}
 use Rattle.growth.specs.Made.{Made}
 use Rattle.growth.specs.Ordered.{Ordered}
 use Rattle.state.specs.Keeps.{IsSet, KeepsVersions, KeepsKeys, KeepsViews, KeepsCommits, KeepsMasks, KeepsOperations}
+use Rattle.state.specs.declared.Refusal.{Refusal as Refused}
 use Rattle.state.specs.Answers.{refusal_of}
-use Rattle.shifts.specs.declared.Sight.{Sight}
-use Rattle.shifts.specs.declared.Sight.TheVariants.{Holds, Bad}
 use Rattle.levels.specs.Level.{Level, Failure, fails_event}
 use Rattle.views.specs.Own.{AddsOwn}
 use Rattle.verdicts.specs.Wants.{Wants}
 use Rattle.verdicts.specs.Verdicts.{Live, KeepsVerdicts}
 use Rattle.trying.specs.declared.Tried.{Tried}
-use Rattle.shifts.specs.declared.Outcome.{Outcome}
-use Rattle.shifts.specs.declared.Outcome.TheVariants.{Taken}
 use Rattle.shifts.specs.Outcomes.{outcome_of, mask_refusal}
 
 -- codes 10, 11 and 14
@@ -46,9 +43,9 @@ pub record LateGiven (g : Configuration) (c : Commit) (values versions keys fres
   pub in-views : KeepsViews g views seen
 
 -- what is said of the view after: the refusal that is due, or none, and the commits of which it holds a version
-abbrev pub AfterSays : ℕ → Configuration → Commit → Sight → Type 0
-AfterSays i g c (Bad r) = some (refusal_of r) ≡ late_refusal i g c
-AfterSays i g c (Holds m) = (none ≡ late_refusal i g c) × IsSet m (D.Holds (history (store_after g c)) (held c.view_after))
+abbrev pub AfterSays : ℕ → Configuration → Commit → Result ℕ Refused → Type 0
+AfterSays i g c (Err r) = some (refusal_of r) ≡ late_refusal i g c
+AfterSays i g c (Ok m) = (none ≡ late_refusal i g c) × IsSet m (D.Holds (history (store_after g c)) (held c.view_after))
 
 -- what the levels are given besides
 pub record JudgeGiven (g : Configuration) (c : Commit) (tried : Tried) (plain : Bool) (commits verdicts : List ℕ) : Type 0 where
@@ -60,7 +57,7 @@ pub record JudgeGiven (g : Configuration) (c : Commit) (tried : Tried) (plain : 
   pub in-commits : KeepsCommits (store_after g c) commits
 
 -- and what is answered: the refusal that is due, and where none is, the views after the commit and the verdicts on it are kept
-abbrev pub LateSays : ℕ → Configuration → Commit → (Level → Option Failure) → List ℕ → List ℕ → List ℕ → Outcome → Type 0
+abbrev pub LateSays : ℕ → Configuration → Commit → (Level → Option Failure) → List ℕ → List ℕ → List ℕ → Result (Unit {0}) Refused → Type 0
 LateSays i g c fs views seen verdicts r =
     (outcome_of r ≡ late_refusal i g c)
-    × (r ≡ Taken → KeepsViews (step g (commit c)) views seen × KeepsVerdicts (λ l. or_else (fs l) (fails_event l i g (commit c))) verdicts)
+    × (r ≡ Ok tt → KeepsViews (step g (commit c)) views seen × KeepsVerdicts (λ l. or_else (fs l) (fails_event l i g (commit c))) verdicts)

@@ -1,5 +1,5 @@
 -- A commit in a record of the file, and what is given where it is read and made. Assumes nothing.
-use Rattle.std.specs.Prelude.{ℕ, ◌≤◌, ◌≡◌, List, T}
+use Rattle.std.specs.Prelude.{ℕ, ◌≤◌, ◌≡◌, List, T, Result, Ok}
 use Rattle.std.proofs.Math.Option.{Option}
 use Rattle.search.specs.Choose.{or_else}
 use Rattle.sets.specs.Set.{Set}
@@ -16,12 +16,11 @@ use Rattle.trace.specs.Meaning.{listing_of}
 use Rattle.trace.specs.Sorted.{SortedAs, ListsBy}
 pub use Rattle.trace.specs.Sorted.{ValuesFit}
 use Rattle.trace.specs.WellFormed.{FitsCommit}
+use Rattle.state.specs.declared.Refusal.{Refusal}
 use Rattle.state.specs.Keeps.{KeepsMasks, KeepsOperations, Keeps}
 use Rattle.shifts.specs.Outcomes.{outcome_of}
 use Rattle.levels.specs.Level.{Level, Failure, fails_event}
 use Rattle.verdicts.specs.Verdicts.{KeepsVerdicts}
-use Rattle.shifts.specs.declared.Outcome.{Outcome}
-use Rattle.shifts.specs.declared.Outcome.TheVariants.{Taken}
 use Rattle.commits.specs.declared.record.CommitAt.{CommitAt}
 
 -- its operations are sorted, and where it lists the masks of their keys it is by their ranks
@@ -57,7 +56,7 @@ pub record Ready (g : Configuration) (c : Commit) (clients client session : ℕ)
 -- ---- what a record comes to
 
 -- event e was done: its outcome is the refusal that is due, and where none is, the arrays keep what it leads to
-pub record EventDone (i : ℕ) (g : Configuration) (fs : Level → Option Failure) (e : Event) (versions keys views seen sessions commits links verdicts values : List ℕ) (o : Outcome) : Type 0 where
+pub record EventDone (i : ℕ) (g : Configuration) (fs : Level → Option Failure) (e : Event) (versions keys views seen sessions commits links verdicts values : List ℕ) (o : Result (Unit {0}) Refusal) : Type 0 where
   pub answer : outcome_of o ≡ refuses_event i g e
   pub small : ValuesFit values
-  pub kept : o ≡ Taken → Keeps (step g e) versions keys views seen sessions commits links × KeepsVerdicts (λ l. or_else (fs l) (fails_event l i g e)) verdicts
+  pub kept : o ≡ Ok tt → Keeps (step g e) versions keys views seen sessions commits links × KeepsVerdicts (λ l. or_else (fs l) (fails_event l i g e)) verdicts

@@ -15,8 +15,7 @@ ghost use Rattle.commits.specs.Codes.{LateGiven, AfterSays, JudgeGiven, LateSays
 use crate::Engine;
 use crate::engines::judge_by;
 use shifts::masks::sight;
-use shifts::{Outcome, Sight};
-use state::{CommitNumber, FoundKey, Refusal};
+use state::{CommitNumber, Refusal};
 use trying::Tried;
 
 // The commit's own number, as a set; none where it writes nothing.
@@ -45,7 +44,7 @@ fn sight_after(
     own: u64,
     plain: bool,
     n: usize,
-) -> Sight
+) -> Result<u64, Refusal>
     requires { (1 ≤ n) × (n ≤ max_keys) × (client < max_clients) × VersionsRoom versions.now × KeysRoom keys.now × FreshRoom fresh.now × ViewsRoom views.now × SeenRoom seen.now }
     ensures { (g : Configuration) (c : Commit) (values : List ℕ) (me : ℕ)
         → LateGiven g c values versions.now keys.now fresh.now views.now seen.now client ranks n me
@@ -53,18 +52,14 @@ fn sight_after(
         → AfterSays number g c result }
 {
     if plain {
-        return Sight::Holds(sets::union(seen[client], own));
+        return Ok(sets::union(seen[client], own));
     }
     let base = state::PER_CLIENT * client;
-    match sight(number, versions, keys, fresh, views, base, seen[client], n) {
-        Sight::Bad(r) => Sight::Bad(r),
-        Sight::Holds(m) => {
-            if let FoundKey::AtKey(k) = views::masks::stray(fresh, views, base, ranks, n) {
-                return Sight::Bad(Refusal::of_key(14, number, k));
-            }
-            Sight::Holds(m)
-        }
+    let held = sight(number, versions, keys, fresh, views, base, seen[client], n)?;
+    if let Some(k) = views::masks::stray(fresh, views, base, ranks, n) {
+        return Err(Refusal::of_key(14, number, k));
     }
+    Ok(held)
 }
 
 // A commit that is made, of the record of this number: codes 10, 11 and 14; where none is due, the levels judge it, the client's view is stored as the one
@@ -86,7 +81,7 @@ pub fn late(
     plain: bool,
     n: usize,
     me: CommitNumber,
-) -> Outcome
+) -> Result<(), Refusal>
     requires { (1 ≤ n) × (n ≤ max_keys) × (client < max_clients) × (me.0 < numbers) × VersionsRoom versions.now × KeysRoom keys.now × CommitsRoom commits.now × FreshRoom fresh.now × ViewsRoom views.old × SeenRoom seen.old × VerdictsRoom verdicts.old }
     ensures { (g : Configuration) (c : Commit) (values : List ℕ) (fs : Level → Option Failure)
         → LateGiven g c values versions.now keys.now fresh.now views.old seen.old client ranks n me.0
@@ -94,19 +89,15 @@ pub fn late(
         → LateSays number g c fs views.new seen.new verdicts.new result }
 {
     let own = own_number(ranks, n, me);
-    match sight_after(
+    let after = sight_after(
         number, versions, keys, fresh, views, seen, client, ranks, own, plain, n,
-    ) {
-        Sight::Bad(r) => Outcome::Refused(r),
-        Sight::Holds(after) => {
-            let base = state::PER_CLIENT * client;
-            judge_by(
-                engine, verdicts, number, tried, versions, keys, commits, views, base, fresh,
-                after, own, ranks, plain, n, me,
-            );
-            views::masks::store_and_keep(views, base, fresh, n, me);
-            seen[client] = after;
-            Outcome::Taken
-        }
-    }
+    )?;
+    let base = state::PER_CLIENT * client;
+    judge_by(
+        engine, verdicts, number, tried, versions, keys, commits, views, base, fresh, after, own,
+        ranks, plain, n, me,
+    );
+    views::masks::store_and_keep(views, base, fresh, n, me);
+    seen[client] = after;
+    Ok(())
 }

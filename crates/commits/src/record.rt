@@ -14,8 +14,7 @@ ghost use Rattle.commits.specs.Records.{ValuesFit, SortedIn, commit_in, Recorded
 use crate::Engine;
 use crate::engines::wanted_by;
 use crate::late::late;
-use shifts::Outcome;
-use state::{CommitNumber, FoundRead, Refusal};
+use state::{CommitNumber, Refusal};
 use trace::records::Listing;
 
 // Where the parts of a commit stand in the file, the ranks of its operations, and what it lists of its view after.
@@ -69,7 +68,7 @@ fn complete(
     n: usize,
     me: CommitNumber,
     engine: Engine,
-) -> Outcome
+) -> Result<(), Refusal>
     requires le_n { (1 ≤ n) × (n ≤ max_keys) × (client < max_clients) × (me.0 < numbers) × ValuesRoom values.now × FreshRoom fresh.now × VerdictsRoom verdicts.old }
     requires room { Room versions.old keys.old views.old seen.old sessions.old commits.old links.old }
     ensures { (g : Configuration) (c : Commit) (clients : ℕ) (fs : Level → Option Failure)
@@ -91,12 +90,10 @@ fn complete(
         n,
         me,
     );
-    let wrong = making::make(
+    making::make(
         versions, keys, views, sessions, commits, links, values, client, session, ranks, n, me,
-    );
-    if let FoundRead::Sees(k, v) = wrong {
-        return Outcome::Refused(Refusal::of_read(number, k, v));
-    }
+    )
+    .map_err(|wrong| Refusal::of_read(number, wrong.key, wrong.sees))?;
     let plain = views::masks::adds_own(fresh, views, state::PER_CLIENT * client, versions, n, me);
     late(
         number, engine, tried, versions, keys, commits, fresh, views, seen, verdicts, client,
@@ -123,7 +120,7 @@ pub fn commit_to(
     n: usize,
     me: CommitNumber,
     engine: Engine,
-) -> Outcome
+) -> Result<(), Refusal>
     requires le_n { (1 ≤ n) × (n ≤ max_keys) × (me.0 < numbers) × (at.client < max_clients) × ListingFits file.now n at.listing × SortedIn file.now at values.now }
     requires values_room { ValuesRoom values.now × FreshRoom fresh.old × VerdictsRoom verdicts.old }
     requires room { Room versions.old keys.old views.old seen.old sessions.old commits.old links.old }
@@ -135,7 +132,7 @@ pub fn commit_to(
     let client = at.client;
     let session = at.session;
     if (session as u64) < sessions[state::BAR + client] {
-        return Outcome::Refused(Refusal::of_record(9, number));
+        return Err(Refusal::of_record(9, number));
     }
     let ranks = at.ranks;
     view_after(file, at, views, fresh, n);

@@ -7,14 +7,12 @@ ghost use Rattle.store.specs.Limits.{max_keys, max_clients, numbers};
 ghost use Rattle.store.specs.Store.{Store, View, Commit, next_number};
 ghost use Rattle.store.specs.Update.{update};
 ghost use Rattle.store.specs.Refusal.{wrong_read};
-ghost use Rattle.state.specs.declared.FoundRead.TheVariants.{NoRead};
 ghost use Rattle.state.specs.Answers.{sighting_of};
 ghost use Rattle.state.specs.Room.{VersionsRoom, KeysRoom, ViewsRoom, SessionsRoom, CommitsRoom, LinksRoom, ValuesRoom};
 ghost use Rattle.state.specs.Keeps.{KeepsCommits, FollowsLinks};
 ghost use Rattle.making.specs.Commits.{CommitGiven, MadeIn};
 
-use operations::Linked;
-use state::{CommitNumber, FoundRead};
+use state::{CommitNumber, WrongRead};
 
 // The earlier commits of a client, for a commit with operations; none for one without.
 fn before_of(sessions: &[u64], client: usize, ranks: u64) -> u64
@@ -42,14 +40,14 @@ pub fn make(
     ranks: u64,
     n: usize,
     me: CommitNumber,
-) -> FoundRead
+) -> Result<(), WrongRead>
     requires n_le_max_keys { (n ≤ max_keys) × (client < max_clients) × (me.0 < numbers) × VersionsRoom versions.old × KeysRoom keys.old × ViewsRoom views.now }
     requires sessions_room { SessionsRoom sessions.old × CommitsRoom commits.old × LinksRoom links.old × ValuesRoom values.now }
     ensures { (s : Store) (u : View) (c : Commit)
         → CommitGiven s u c versions.old keys.old views.now sessions.old values.now client ranks n
         → next_number s ≡ me.0 → c.session ≡ session → KeepsCommits s commits.old → FollowsLinks s links.old
         → (sighting_of result ≡ wrong_read s u c)
-        × (result ≡ NoRead → MadeIn (update s u c) versions.new keys.new sessions.new commits.new links.new) }
+        × (result ≡ Ok tt → MadeIn (update s u c) versions.new keys.new sessions.new commits.new links.new) }
 {
     let before = before_of(sessions, client, ranks);
     let linked = operations::perform(
@@ -61,17 +59,9 @@ pub fn make(
         ranks,
         n,
         me,
-    );
-    match linked {
-        Linked::Wrong(k, v) => FoundRead::Sees(k, v),
-        Linked::Made {
-            from,
-            earlier,
-            over,
-        } => {
-            paths::note(links, me, before, from, earlier, over, ranks);
-            sessions::settle(sessions, commits, client, session, me, ranks != 0, from);
-            FoundRead::NoRead
-        }
-    }
+    )?;
+    let from = linked.from;
+    paths::note(links, me, before, from, linked.earlier, linked.over, ranks);
+    sessions::settle(sessions, commits, client, session, me, ranks != 0, from);
+    Ok(())
 }

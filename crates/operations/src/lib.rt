@@ -14,7 +14,7 @@ ghost use Rattle.operations.specs.Given.{Given, Appending};
 ghost use Rattle.operations.specs.Change.{free_bit, free, reader_added, version_added, version_owned, key_grown, writes_appended};
 ghost use Rattle.operations.specs.Answers.{ReadsSay, LinkedSays};
 
-use state::{CommitNumber, Key, VersionNumber, Visible};
+use state::{CommitNumber, Key, VersionNumber, WrongRead};
 
 // The two accesses, by their place in a rank.
 const READ: usize = 0;
@@ -30,12 +30,11 @@ fn note_read(versions: &mut [u64], k: Key, version: VersionNumber, me: CommitNum
     versions[at] = sets::insert(versions[at], me.0);
 }
 
-// What the reads of a commit come to: the writers of the versions that it reads, and those of later versions of the same keys; or the first read that is wrong,
-// and what it sees.
+// What the reads of a commit come to: the writers of the versions that it reads, and those of later versions of the same keys.
 #[derive(Clone, Copy)]
-pub enum Reads {
-    Right { from: u64, over: u64 },
-    Wrong(Key, Visible),
+pub struct Sources {
+    pub from: u64,
+    pub over: u64,
 }
 
 // "Reads add the commit to that version's readers." Answers whose versions are read, and who wrote later ones: as writers rise with the
@@ -50,7 +49,7 @@ pub fn note_reads(
     ranks: u64,
     n: usize,
     me: CommitNumber,
-) -> Reads
+) -> Result<Sources, WrongRead>
     requires { VersionsRoom versions.old × KeysRoom keys.now × ViewsRoom views.now × ValuesRoom values.now
         × (base + n ≤ views_length) × (n ≤ max_keys) × (me.0 < numbers) }
     ensures { (s : Store) (u : View) (c : Commit)
@@ -64,7 +63,7 @@ pub fn note_reads(
         let k = sets::lowest(left) / 2;
         let sees = state::newest_visible(versions, views[base + k], Key(k));
         if values[2 * k] != sees.value {
-            return Reads::Wrong(Key(k), sees);
+            return Err(WrongRead { key: Key(k), sees });
         }
         let version = sees.version;
         let writer = sees.writer;
@@ -74,7 +73,7 @@ pub fn note_reads(
         note_read(versions, Key(k), version, me);
         left = sets::rest(left);
     }
-    Reads::Right { from, over }
+    Ok(Sources { from, over })
 }
 
 // The head of a version: its value, and its writer above it.
@@ -154,12 +153,12 @@ pub fn append(
     earlier
 }
 
-// The commits from which links lead to the commit that is made, by WR and WW, and those to which RW leads from it; or the first read that is wrong, and what
-// it sees.
+// The commits from which links lead to the commit that is made, by WR and WW, and those to which RW leads from it.
 #[derive(Clone, Copy)]
-pub enum Linked {
-    Made { from: u64, earlier: u64, over: u64 },
-    Wrong(Key, Visible),
+pub struct Links {
+    pub from: u64,
+    pub earlier: u64,
+    pub over: u64,
 }
 
 // All operations of commit `me`, made on the view in the row at `base`: the reads first, which see what was there before. Where one is wrong (code 13), nothing
@@ -173,22 +172,18 @@ pub fn perform(
     ranks: u64,
     n: usize,
     me: CommitNumber,
-) -> Linked
+) -> Result<Links, WrongRead>
     requires { VersionsRoom versions.old × KeysRoom keys.old × ViewsRoom views.now × ValuesRoom values.now
         × (base + n ≤ views_length) × (n ≤ max_keys) × (me.0 < numbers) }
     ensures { (s : Store) (u : View) (c : Commit)
         → Given s u c versions.old views.now base values.now ranks n → KeepsKeys s keys.old
         → LinkedSays s u c me.0 versions.new keys.new result }
 {
-    match note_reads(versions, keys, views, base, values, ranks, n, me) {
-        Reads::Wrong(k, v) => Linked::Wrong(k, v),
-        Reads::Right { from, over } => {
-            let earlier = append(versions, keys, values, ranks, n, me);
-            Linked::Made {
-                from,
-                earlier,
-                over,
-            }
-        }
-    }
+    let read = note_reads(versions, keys, views, base, values, ranks, n, me)?;
+    let earlier = append(versions, keys, values, ranks, n, me);
+    Ok(Links {
+        from: read.from,
+        earlier,
+        over: read.over,
+    })
 }

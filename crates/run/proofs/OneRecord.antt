@@ -1,4 +1,5 @@
 -- One record of a run: what the calls ensure is what its answer says. Assumes nothing.
+use Rattle.std.specs.Prelude.{Result, Ok}
 use Prim.Native.Nat.{ℕ, ◌+◌, ◌≤◌, ◌<◌}
 use mathlib.Core.Path.{◌≡◌, refl, sym, ap, subst}
 use mathlib.Core.Option.{Option, some, none}
@@ -23,8 +24,7 @@ use Rattle.trace.specs.declared.records.Record.TheVariants.{Shift, Commit}
 use Rattle.levels.specs.Level.{Level, Failure, fails_event}
 use Rattle.state.specs.Keeps.{KeepsViews}
 use Rattle.verdicts.specs.Verdicts.{KeepsVerdict, KeepsVerdicts}
-use Rattle.shifts.specs.declared.Outcome.{Outcome}
-use Rattle.shifts.specs.declared.Outcome.TheVariants.{Taken}
+use Rattle.state.specs.declared.Refusal.{Refusal}
 use Rattle.shifts.specs.Outcomes.{outcome_of, ShiftGiven}
 use Rattle.commits.specs.declared.record.CommitAt.{CommitAt}
 use Rattle.commits.specs.Records.{ValuesFit, SortedIn, commit_in, Recorded, EventDone}
@@ -49,9 +49,9 @@ record-readable file bytes at n clients made (Commit client count session operat
 
 -- ---- a shift
 
-module _ (file : List ℕ) (n client : ℕ) (listing : Listing) (made : ℕ) {r : Record} (is : r ≡ Shift client listing) (number : ℕ) {versions keys views seen views' seen' : List ℕ} (o : Outcome)
+module _ (file : List ℕ) (n client : ℕ) (listing : Listing) (made : ℕ) {r : Record} (is : r ≡ Shift client listing) (number : ℕ) {versions keys views seen views' seen' : List ℕ} (o : Result (Unit {0}) Refusal)
     (answer : (g : Configuration) → ShiftGiven g (view_meant g client (listing_of file n listing)) n versions keys views seen → outcome_of o ≡ refuses_event number g (shift client (view_meant g client (listing_of file n listing))))
-    (kept : (g : Configuration) → ShiftGiven g (view_meant g client (listing_of file n listing)) n versions keys views seen → o ≡ Taken → KeepsViews (step g (shift client (view_meant g client (listing_of file n listing)))) views' seen') where
+    (kept : (g : Configuration) → ShiftGiven g (view_meant g client (listing_of file n listing)) n versions keys views seen → o ≡ Ok tt → KeepsViews (step g (shift client (view_meant g client (listing_of file n listing)))) views' seen') where
   shift-event : (g : Configuration) → shift client (view_meant g client (listing_of file n listing)) ≡ event g (entry_of file n r)
   unfolding entry_of event
   shift-event g = ap (λ (x : Record). event g (entry_of file n x)) (sym is)
@@ -116,7 +116,7 @@ module _ (file : List ℕ) (n : ℕ) (at : CommitAt) (made : ℕ) {r : Record} (
   unfolding RecordSorted
   sorted-in values s = subst (RecordSorted file at.ranks values) is s
 
-  module _ (number : ℕ) {versions keys views seen sessions commits links verdicts values : List ℕ} {versions' keys' views' seen' sessions' commits' links' verdicts' : List ℕ} (values' : List ℕ) (o : Outcome)
+  module _ (number : ℕ) {versions keys views seen sessions commits links verdicts values : List ℕ} {versions' keys' views' seen' sessions' commits' links' verdicts' : List ℕ} (values' : List ℕ) (o : Result (Unit {0}) Refusal)
       (done : (g : Configuration) (clients : ℕ) (fs : Level → Option Failure)
       → Recorded g (commit_in g file at n) clients n versions keys views seen sessions commits links → next_number g.store ≡ made + 1 → ValuesFit values → KeepsVerdicts fs verdicts
       → EventDone number g fs (commit (commit_in g file at n)) versions' keys' views' seen' sessions' commits' links' verdicts' values' o)

@@ -1,15 +1,14 @@
 -- Where a run stands with its arrays: how it begins, goes on, is refused, and ends. Assumes nothing.
+use Rattle.std.specs.Prelude.{Result, Ok, Err}
 use Prim.Native.Nat.{ℕ, ◌+◌, ◌-◌, ◌≤◌, ◌<◌}
 use mathlib.Core.Path.{◌≡◌, refl, sym, ap, ◌∙◌, subst}
 use mathlib.Core.Option.{Option, some, none}
 use mathlib.Core.List.{List}
 use native.Mathlib.Omega.{arith}
-use lib.ListN.{length}
 use Rattle.search.specs.Choose.{or_else}
-use Rattle.sets.specs.Set.{Set}
 use Rattle.endian.specs.Endian.{Bytes}
-use Rattle.store.specs.Limits.{max_clients, max_commits, min_bytes}
-use Rattle.store.specs.Store.{Configuration, opening_store, opening, Event}
+use Rattle.store.specs.Limits.{max_clients, min_bytes}
+use Rattle.store.specs.Store.{Configuration, opening_store, opening}
 use Rattle.store.specs.Image.{ClientsFit}
 use Rattle.store.specs.Update.{step, first_along}
 use Rattle.store.specs.Refusal.{refuses_event}
@@ -17,7 +16,7 @@ use Rattle.store.specs.Sound.{Sound, WithinKeys}
 use Rattle.store.specs.View.{FitsView}
 use Rattle.trace.specs.Entry.{Entry, shifting, committing, over, commit_meant, event, events_of}
 use Rattle.trace.specs.Format.{Header, commits_with, entries_from}
-use Rattle.trace.specs.Result.{Result}
+use Rattle.trace.specs.Result.{Result as Decoded}
 use Rattle.trace.specs.Meaning.{entry_of, Reading, read_whole, reading_of, RecordSays, counted_of, Form, header_of, FormSays, RestSays}
 use Rattle.trace.specs.declared.records.Record.{Record}
 use Rattle.trace.specs.declared.form.Header.{Header as CodeHeader}
@@ -32,12 +31,10 @@ use Rattle.state.specs.declared.Refusal.{Refusal}
 use Rattle.state.specs.Answers.{refusal_of}
 use Rattle.state.specs.Keeps.{Keeps}
 use Rattle.verdicts.specs.Verdicts.{KeepsVerdict, KeepsVerdicts}
-use Rattle.shifts.specs.declared.Outcome.{Outcome}
-use Rattle.shifts.specs.declared.Outcome.TheVariants.{Taken, Refused}
 use Rattle.shifts.specs.Outcomes.{outcome_of}
 use Rattle.commits.specs.Records.{ValuesFit, EventDone}
 use Rattle.run.specs.Along.{Along}
-use Rattle.run.specs.Ran.{header_with, Starts, Ended}
+use Rattle.run.specs.Ran.{Starts, Ended}
 use Rattle.run.specs.OneRecord.{Standing, Fitting}
 use Rattle.run.proofs.Along.{along-start, commits-after, along-refused, along-end, along-shift, along-commit}
 
@@ -52,7 +49,7 @@ pub read-turn : (file : List ℕ) (at n clients number made : ℕ) {y : Reading}
 read-turn file at n clients number made (x, says, counted) is = subst (CountedSays file at n clients number made) (sym counted ∙ is) (counted-says file at n clients number made x says)
 
 -- the form of the records that are left is that of all
-pub turn-rest : {file : List ℕ} {h : CodeHeader} {all : Result (List Entry)} {left at number made : ℕ} → InTurn file h all left at number made → number + left ≡ h.records + 1
+pub turn-rest : {file : List ℕ} {h : CodeHeader} {all : Decoded (List Entry)} {left at number made : ℕ} → InTurn file h all left at number made → number + left ≡ h.records + 1
     → (f : Form) → RestSays file h at number made f → FormSays all h f
 turn-rest {file} {h} {all} {left} {at} {number} {made} t numbered f says =
     let so-many : h.records + 1 - number ≡ left = omega arith in
@@ -160,14 +157,14 @@ module _ {file : List ℕ} {n clients records : ℕ} {rs : List Entry} where
           along-commit file (header n clients records) (events_of (opening n) rs) left at number s.g s.rest s.fs s.along d v os l next first
           (subst (λ (k : ℕ). WithinKeys k c) (sym s.along.keys-are) (commit-fits n clients c fits)) (omega (arith, fits.client-below)) q
 
-      module _ (versions' keys' views' seen' sessions' commits' links' verdicts' values' : List ℕ) (o : Outcome)
+      module _ (versions' keys' views' seen' sessions' commits' links' verdicts' values' : List ℕ) (o : Result (Unit {0}) Refusal)
           (answer : (g : Configuration) (fs : Level → Option Failure) (clients : ℕ) → Fitting file n clients r
           → Standing g fs n made versions keys views seen sessions commits links verdicts values
           → EventDone number g fs (event g (entry_of file n r)) versions' keys' views' seen' sessions' commits' links' verdicts' values' o) where
         done : EventDone number s.g s.fs (event s.g (entry_of file n r)) versions' keys' views' seen' sessions' commits' links' verdicts' values' o
         done = answer s.g s.fs clients (record { few-clients = few-clients; fits = fits }) standing
 
-        pub run-goes : {count : ℕ} → o ≡ Taken → count ≡ commits_with (entry_of file n r) made
+        pub run-goes : {count : ℕ} → o ≡ Ok tt → count ≡ commits_with (entry_of file n r) made
             → Stands file n clients records rs (left - 1) next (number + 1) count versions' keys' views' seen' sessions' commits' links' verdicts' values'
         run-goes {count} q counted =
             let (keeps, failures) = done.kept q in
@@ -182,7 +179,7 @@ module _ {file : List ℕ} {n clients records : ℕ} {rs : List Entry} where
               small = done.small;
             }
 
-        pub run-stops : {x : Refusal} → o ≡ Refused x
+        pub run-stops : {x : Refusal} → o ≡ Err x
             → first_along refuses_event 1 (opening n) (events_of (opening n) rs) ≡ some (refusal_of x)
         run-stops q =
             along-refused file (header n clients records) (events_of (opening n) rs) left at number s.g s.rest s.fs s.along (entry_of file n r) first.others first.is-first _

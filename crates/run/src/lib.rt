@@ -17,7 +17,6 @@ ghost use Rattle.run.specs.Ran.{header_with, form_of, Starts, RanSays};
 
 use commits::Engine;
 use one::one_record;
-use shifts::Outcome;
 use state::Refusal;
 use trace::form::{Header, Misshapen, counted, records_form, refused_at};
 use trace::records;
@@ -97,7 +96,7 @@ pub fn run_all(
         );
         made = records::commits_with(record, made);
         at = read.whole.next;
-        if let Outcome::Refused(refusal) = outcome {
+        if let Err(refusal) = outcome {
             let header = Header {
                 keys: n,
                 clients,

@@ -14,9 +14,8 @@ ghost use Rattle.run.specs.OneRecord.{Readable, Standing, Fitting};
 
 use commits::Engine;
 use commits::record::{CommitAt, commit_to};
-use shifts::Outcome;
 use shifts::shift::shift_to;
-use state::CommitNumber;
+use state::{CommitNumber, Refusal};
 use trace::records::Record;
 
 // A record of the file, done: a view shift, or a commit for which there is a number left, its operations sorted by these ranks.
@@ -38,7 +37,7 @@ pub fn one_record(
     fresh: &mut [u64],
     n: usize,
     engine: Engine,
-) -> Outcome
+) -> Result<(), Refusal>
     requires le_n { (1 ≤ n) × (n ≤ max_keys) × Readable file.now n made r × RecordSorted file.now ranks values.now r }
     requires values_room { ValuesRoom values.now × FreshRoom fresh.old × VerdictsRoom verdicts.old }
     requires room { Room versions.old keys.old views.old seen.old sessions.old commits.old links.old }

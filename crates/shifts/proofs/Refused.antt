@@ -1,4 +1,5 @@
 -- What the judge answers of a shift is what the spec answers: one lemma for each answer. Assumes nothing.
+use Rattle.std.specs.Prelude.{Result, Ok, Err, MatchResult, IsErrAnd}
 use Prim.Native.Nat.{ℕ, ◌+◌, ◌*◌, ◌<◌}
 use mathlib.Core.Path.{◌≡◌, refl, sym, ap, ◌∙◌}
 use mathlib.Core.Option.{Option, some, none}
@@ -11,12 +12,13 @@ use Rattle.store.specs.Limits.{max_keys, max_clients}
 use Rattle.store.specs.Store.{Client, View, Store, Configuration, shift}
 use Rattle.store.specs.Missing.{Place, missing}
 use Rattle.store.specs.Refusal.{Refusal, bad_mask, half_held, all_of, lost, refuse_key, refuse_place, refuses_event}
+use Rattle.state.specs.declared.Refusal.{Refusal as Answer}
+use Rattle.state.specs.declared.Place.{Place as Placed}
+use Rattle.state.specs.Answers.{refusal_of}
 use Rattle.state.specs.Keeps.{KeepsMasks}
-use Rattle.views.specs.Viewed.{NewMasks}
+use Rattle.views.specs.Viewed.{ViewedAs, NewMasks}
 use Rattle.trace.specs.Entry.{Listed, listed_or, over}
-use Rattle.shifts.specs.declared.Outcome.{Outcome}
-use Rattle.shifts.specs.declared.Outcome.TheVariants.{Taken}
-use Rattle.shifts.specs.Outcomes.{outcome_of, mask_refusal, ShiftGiven}
+use Rattle.shifts.specs.Outcomes.{outcome_of, mask_refusal, SightSays, ShiftGiven}
 
 -- ---- codes 10 and 11, in this order, and none of them
 
@@ -32,6 +34,14 @@ module _ (i : ℕ) (s : Store) (u : View) {a : Refusal} where
 pub masks-good : (i : ℕ) (s : Store) (u : View) → bad_mask s u ≡ none → half_held s u ≡ none → mask_refusal i s u ≡ none
 unfolding mask_refusal first_some map_some or_else
 masks-good i s u e h = rw (e, h)
+
+-- where no mask is bad, code 11 is due where a commit is held in part
+pub sight-is : (i : ℕ) (s : Store) (u : View) → bad_mask s u ≡ none → (v : Result ℕ Placed) → ViewedAs s u v → (r : Result ℕ Answer) {made : Placed → Answer → Type 0}
+    → ((p : Placed) (a : Answer) → made p a → refusal_of a ≡ refuse_place 11 i (record { key = p.key.0; version = p.version.0 }))
+    → MatchResult v (λ m. r ≡ Ok m) (λ p. IsErrAnd r (made p)) → SightSays i s u r
+sight-is i s u good (Ok m) x r is e = rw e (masks-good i s u good x.0, x.1)
+sight-is i s u good (Err p) x (Ok m) is e = absurd e
+sight-is i s u good (Err p) x (Err a) is e = half-refused i s u good x (is p a e)
 
 pub good-masks : (i : ℕ) (s : Store) (u : View) → mask_refusal i s u ≡ none → (bad_mask s u ≡ none) × (half_held s u ≡ none)
 unfolding mask_refusal
@@ -68,7 +78,7 @@ module _ (i : ℕ) (g : Configuration) (d : Client) (u : View) where
   not-refused e h = sym (rw (e, h) at shift-refusal)
 
 -- a refusal is not that the record is taken
-pub not_taken : {X : Type 0} (r : Outcome) {a : Refusal} → outcome_of r ≡ some a → r ≡ Taken → X
+pub not_taken : {X : Type 0} (r : Result (Unit {0}) Answer) {a : Refusal} → outcome_of r ≡ some a → r ≡ Ok tt → X
 not_taken r e t = some-none (sym e ∙ ap outcome_of t)
 
 -- ---- what is given, as each call asks it

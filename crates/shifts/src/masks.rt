@@ -7,9 +7,7 @@ ghost use Rattle.state.specs.Room.{VersionsRoom, KeysRoom, FreshRoom};
 ghost use Rattle.views.specs.Viewed.{NewMasks};
 ghost use Rattle.shifts.specs.Outcomes.{SightSays};
 
-use crate::Sight;
-use state::{FoundKey, Refusal};
-use views::Viewed;
+use state::Refusal;
 
 // Codes 10 and 11, for the record of this number, and the commits of which the masks hold a version. The client's view stands at `base` and holds the
 // commits `seen`.
@@ -22,18 +20,15 @@ pub fn sight(
     base: usize,
     seen: u64,
     n: usize,
-) -> Sight
+) -> Result<u64, Refusal>
     requires { (1 ≤ n) × (n ≤ max_keys) × VersionsRoom versions.now × KeysRoom keys.now × FreshRoom fresh.now × (base + n ≤ length views.now) }
     ensures { (s : Store) (old u : View) → NewMasks s old u n versions.now keys.now views.now base seen fresh.now
         → SightSays number s u result }
 {
-    let bad = views::masks::bad_mask(fresh, keys, n);
-    if let FoundKey::AtKey(k) = bad {
-        return Sight::Bad(Refusal::of_key(10, number, k));
+    if let Some(k) = views::masks::bad_mask(fresh, keys, n) {
+        return Err(Refusal::of_key(10, number, k));
     }
-    let v = views::held::viewed(versions, keys, fresh, views, base, seen, n);
-    match v {
-        Viewed::Holds(m) => Sight::Holds(m),
-        Viewed::Half(k, i) => Sight::Bad(Refusal::of_version(11, number, k, i)),
-    }
+    views::held::viewed(versions, keys, fresh, views, base, seen, n).map_err(
+        |half| Refusal::of_version(11, number, half.key, half.version),
+    )
 }

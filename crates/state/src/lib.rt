@@ -157,25 +157,18 @@ impl Refusal {
     }
 }
 
-// The first version that a search came upon.
+// A version of a key.
 #[derive(Clone, Copy)]
-pub enum Found {
-    At(Key, VersionNumber),
-    Nothing,
+pub struct Place {
+    pub key: Key,
+    pub version: VersionNumber,
 }
 
-// The first key that a search came upon.
+// A read with another value than that of the version that it sees: its key, and what it sees.
 #[derive(Clone, Copy)]
-pub enum FoundKey {
-    AtKey(Key),
-    NoKey,
-}
-
-// The first read that a search came upon, and what it sees.
-#[derive(Clone, Copy)]
-pub enum FoundRead {
-    Sees(Key, Visible),
-    NoRead,
+pub struct WrongRead {
+    pub key: Key,
+    pub sees: Visible,
 }
 
 // ---- what words say

@@ -1,4 +1,5 @@
 -- What is at hand where a commit is judged, from what was tried on the arrays that keep the store after it. Assumes nothing.
+use Rattle.std.specs.Prelude.{Option as CodeOption}
 use Prim.Native.Nat.{ℕ, suc, ◌+◌, ◌≤◌, ◌<◌}
 use mathlib.Core.Path.{◌≡◌, sym, ap, ◌∙◌, subst}
 use mathlib.Core.List.{List}
@@ -18,7 +19,7 @@ use Rattle.store.specs.Image.{ClientsFit}
 use Rattle.growth.specs.Made.{Made}
 use Rattle.growth.specs.Sessions.{UpTo}
 use Rattle.growth.proofs.Made.{keys-after, number-after, client-kept, client-new}
-use Rattle.state.specs.declared.Found.{Found}
+use Rattle.state.specs.declared.Place.{Place}
 use Rattle.state.specs.Keeps.{IsSet, KeepsCommits, KeepsMasks, KeepsOperations}
 use Rattle.state.specs.Answers.{place_of}
 use Rattle.views.specs.Rules.{StoreAndView}
@@ -67,7 +68,7 @@ module _ (s : Store) (u : View) (c : Commit) (made : Made s u c) where
       }
 
       pub handed : IsView after c.view_after → (seen : Set) → IsSet seen (Holds (history s) (held u)) → (w : Wanted) → Wants s u c w → (ranks : Set) (values : List ℕ) → KeepsOperations c ranks values
-          → (lost : Found) → (s.keys ≡ n → place_of lost ≡ missing s (all_of u) c.view_after)
+          → (lost : CodeOption Place) → (s.keys ≡ n → place_of lost ≡ missing s (all_of u) c.view_after)
           → (session : Set) → (StoredBelow (me + 1) (recorded versions keys commits n) → IsSet session (UpTo (recorded versions keys commits n) me))
           → (now : Set) → IsSet now (HeldIn versions keys fresh 0 n) → (absent : Set) → IsSet absent (λ t. WroteOne versions keys (below width) n t × (¬ T (has now t)))
           → Judging s u c (record { seen = seen; ranks = ranks; lost = lost; session = session; absent = absent; wanted = w }) values versions keys views fresh base n

@@ -1,5 +1,6 @@
 -- Each clause on sets of commits: it passes exactly where what it wants and what is lacking have nothing in common; and the set of the failing clauses,
 -- made clause by clause. Assumes nothing.
+use Rattle.std.specs.Prelude.{Option as CodeOption}
 use Prim.Native.Nat.{ℕ, suc, ◌<◌}
 use mathlib.Core.Path.{◌≡◌, refl, sym, ◌∙◌, subst}
 use mathlib.Core.Logic.{◌⊎◌, inl, inr, ⊎_elim, ◌↔◌}
@@ -22,7 +23,7 @@ use Rattle.growth.specs.Clauses.{LeadsToHeld, LacksOneOf}
 use Rattle.growth.proofs.Clauses.{read-your-writes-is, monotonic-writes-is, write-follows-reads-is, update-atomic-is, consistent-prefix-is, snapshot-isolation-is, serialisable-is}
 use Rattle.levels.specs.Clause.{Clause, monotonic_reads, read_your_writes, monotonic_writes, writes_follow_reads, update_atomic, consistent_prefix, snapshot_isolation, serialisability, clause_number, missing_by}
 use Rattle.levels.proofs.Clauses.{Says, clause-is}
-use Rattle.state.specs.declared.Found.{Found}
+use Rattle.state.specs.declared.Place.{Place}
 use Rattle.state.specs.Keeps.{IsSet}
 use Rattle.state.specs.Answers.{place_of}
 use Rattle.verdicts.specs.declared.Hand.{Hand}
@@ -59,7 +60,7 @@ module _ (s : Store) (u : View) (c : Commit) (g : Hand) (h : AtHand s u c g) whe
   said : (x : Clause) → Says s u c x ↔ (missing_by s u c x ≡ none)
   said x = back (clause-is s h.made.sound u h.made.view c (sound-after s u c h.made) x)
 
-  found-passes : (f : Found) (x : Clause) → place_of f ≡ missing_by s u c x → (met : ℕ) → (met ≡ 0) ↔ (place_of f ≡ none) → Passes met x
+  found-passes : (f : CodeOption Place) (x : Clause) → place_of f ≡ missing_by s u c x → (met : ℕ) → (met ≡ 0) ↔ (place_of f ≡ none) → Passes met x
   found-passes f x e met g = both g (λ z. sym e ∙ z, λ z. e ∙ z)
 
   set-passes : (x : Clause) (W : CommitNumber → Type 0) (m : Set) → (LacksSome s u → Gathers s u m W) → Says s u c x ↔ (¬ LacksOneOf s u W) → Passes (bit_and m g.wanted.lacking) x

@@ -1,4 +1,5 @@
 -- What is at hand where a commit is judged, from what its caller knows; and a commit that fails no clause. Assumes nothing.
+use Rattle.std.specs.Prelude.{Option as CodeOption, None}
 use Prim.Native.Nat.{ℕ, ◌<◌}
 use mathlib.Core.Path.{◌≡◌, refl, sym, ap, ◌∙◌, subst}
 use mathlib.Core.Bool.{Bool, true, false, not}
@@ -26,8 +27,7 @@ use Rattle.growth.specs.Made.{Writes, Writer}
 use Rattle.growth.proofs.Made.{keys-after, writer-after}
 use Rattle.growth.specs.Views.{Lacking}
 use Rattle.levels.specs.Level.{Level, clauses_of, Failure, fails_clauses}
-use Rattle.state.specs.declared.Found.{Found}
-use Rattle.state.specs.declared.Found.TheVariants.{Nothing}
+use Rattle.state.specs.declared.Place.{Place}
 use Rattle.state.specs.Places.{numbers, before_place}
 use Rattle.state.specs.Keeps.{IsSet}
 use Rattle.state.specs.Answers.{place_of}
@@ -47,7 +47,7 @@ use Rattle.verdicts.proofs.Noted.{keeps-failure, nothing-new}
 module _ {s : Store} {u : View} {c : Commit} {w : Wanted} {sight : Held} {versions keys commits views fresh values : List ℕ} {ranks : Set} {plain : Bool} {base n me : ℕ}
     (b : AfterCommit s u c w sight versions keys commits views fresh values ranks plain base n me) where
   -- where the view after is the view before and the commit's own versions, clause 1 misses nothing, and no search is made
-  pub plain-lost : {lost : Found} → not plain ≡ false → lost ≡ Nothing → place_of lost ≡ missing s (all_of u) c.view_after
+  pub plain-lost : {lost : CodeOption Place} → not plain ≡ false → lost ≡ None → place_of lost ≡ missing s (all_of u) c.view_after
   plain-lost t e = ap place_of e ∙ own-lost-none s u c (b.adds-own (true-T plain (not-false plain t)))
 
   pub keys-are : s.keys ≡ n
@@ -72,7 +72,7 @@ module _ {s : Store} {u : View} {c : Commit} {w : Wanted} {sight : Held} {versio
           )
 
   -- what is at hand from there
-  module _ (lost : Found) (searched : place_of lost ≡ missing s (all_of u) c.view_after) {session absent : Set}
+  module _ (lost : CodeOption Place) (searched : place_of lost ≡ missing s (all_of u) c.view_after) {session absent : Set}
       (up_to_lem : session ≡ insert me (get_or commits (before_place me) 0)) (few : me < numbers)
       (left : absent ≡ without (union (union sight.before w.lacking) sight.own) sight.after) where
     abbrev hand : Hand
@@ -94,7 +94,7 @@ module _ {s : Store} {u : View} {c : Commit} {w : Wanted} {sight : Held} {versio
   -- where the view after is the view before and the commit's own versions, and the view before lacks nothing, no clause fails
   pub nothing-asked : plain ≡ true → w.lacking ≡ 0 → me < numbers → FailingClauses s u c w.live 0
   nothing-asked t e few =
-      failing-is s u c _ (at-hand Nothing (own-lost-none s u c adds) refl few refl) 0 0 0 0 0 0 0 0 0 (λ _. refl, λ _. refl)
+      failing-is s u c _ (at-hand None (own-lost-none s u c adds) refl few refl) 0 0 0 0 0 0 0 0 0 (λ _. refl, λ _. refl)
       (λ _. refl, λ n. absurd (n refl)) (unmarked 2 (insert me (get_or commits (before_place me) 0)) absent none-absent) (unmarked 3 w.before w.lacking e) (unmarked 4 w.read w.lacking e)
       (unmarked 5 w.written w.lacking e) (unmarked 6 w.prefix w.lacking e) (unmarked 7 w.snapshot w.lacking e) (λ _. refl, λ n. absurd (n e)) refl
     where

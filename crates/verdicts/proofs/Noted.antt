@@ -1,4 +1,5 @@
 -- Failures written down: at one level, and at all levels one after the other. Assumes nothing.
+use Rattle.std.specs.Prelude.{Option as CodeOption, Some, None}
 use Prim.Native.Nat.{ℕ, ◌+◌, ◌^◌, ◌≤◌, ◌<◌}
 use mathlib.Core.Path.{◌≡◌, refl, sym, ◌∙◌}
 use mathlib.Core.Logic.{◌≢◌}
@@ -14,8 +15,7 @@ use Rattle.sets.specs.Set.{Set, lowest}
 use Rattle.store.specs.Store.{View, Store, next_number, Commit}
 use Rattle.levels.specs.Clause.{Clause, clause_number, missing_by}
 use Rattle.levels.specs.Level.{Level, clauses_of, Failure, failure, fails_clauses}
-use Rattle.state.specs.declared.Found.{Found}
-use Rattle.state.specs.declared.Found.TheVariants.{At, Nothing}
+use Rattle.state.specs.declared.Place.{Place}
 use Rattle.state.specs.Answers.{place_of}
 use Rattle.verdicts.specs.Verdicts.{level_count, level_at, numbers_of, record_place, key_place, version_place, VerdictsRoom, KeepsVerdict, KeepsVerdicts, ClausesIn, Live, Fails, FailingClauses, written_down, NotesLevel}
 use Rattle.verdicts.proofs.FirstFailing.{number-range, level-fails}
@@ -68,14 +68,14 @@ module _ (v : List ℕ) (room : VerdictsRoom v) (i : ℕ) (l : i < level_count) 
   fourth-word = get_or-set_same three (version_place i) d 0 (omega (arith, three-long))
 
 -- the other words stay
-other-words : (v : List ℕ) (i clause n : ℕ) (f : Found) (q : ℕ) → q ≢ i → q ≢ record_place i → q ≢ key_place i → q ≢ version_place i → get_or (written_down v i clause n f) q 0 ≡ get_or v q 0
+other-words : (v : List ℕ) (i clause n : ℕ) (f : CodeOption Place) (q : ℕ) → q ≢ i → q ≢ record_place i → q ≢ key_place i → q ≢ version_place i → get_or (written_down v i clause n f) q 0 ≡ get_or v q 0
 unfolding written_down
-other-words v i clause n Nothing q a b c d = refl
-other-words v i clause n (At k j) q a b c d =
-    get_or-set_other (set (set (set v i clause) (record_place i) n) (key_place i) k.0) (version_place i) q j.0 0 d ∙ get_or-set_other (set (set v i clause) (record_place i) n) (key_place i) q k.0 0 c
+other-words v i clause n None q a b c d = refl
+other-words v i clause n (Some p) q a b c d =
+    get_or-set_other (set (set (set v i clause) (record_place i) n) (key_place i) p.key.0) (version_place i) q p.version.0 0 d ∙ get_or-set_other (set (set v i clause) (record_place i) n) (key_place i) q p.key.0 0 c
     ∙ get_or-set_other (set v i clause) (record_place i) q n 0 b ∙ get_or-set_other v i q clause 0 a
 
-other-levels : (v : List ℕ) (i clause n : ℕ) (f : Found) → i < level_count → (j : ℕ) → j < level_count → j ≢ i → (old : Option Failure) → KeepsVerdict v j old → KeepsVerdict (written_down v i clause n f) j old
+other-levels : (v : List ℕ) (i clause n : ℕ) (f : CodeOption Place) → i < level_count → (j : ℕ) → j < level_count → j ≢ i → (old : Option Failure) → KeepsVerdict v j old → KeepsVerdict (written_down v i clause n f) j old
 unfolding KeepsVerdict
 other-levels v i clause n f l j m d none h = stays j (λ e. omega arith) (λ e. omega arith) (λ e. omega arith) (λ e. omega arith) ∙ h
   where
@@ -92,15 +92,15 @@ other-levels v i clause n f l j m d (some x) (h0, h1, h2, h3) = (
     stays = other-words v i clause n f
 
 -- the words of the level are what was found
-this-level : (v : List ℕ) (i n t : ℕ) (x : Clause) (f : Found) → VerdictsRoom v → i < level_count → get_or v i 0 ≡ 0
+this-level : (v : List ℕ) (i n t : ℕ) (x : Clause) (f : CodeOption Place) → VerdictsRoom v → i < level_count → get_or v i 0 ≡ 0
     → KeepsVerdict (written_down v i (clause_number x) n f) i (map_some (failure t n x) (place_of f))
 unfolding KeepsVerdict written_down map_some one two three four
-this-level v i n t x Nothing room l e = e
-this-level v i n t x (At k j) room l e = (
-  first_word v room i l (clause_number x) n k.0 j.0,
-  second_word v room i l (clause_number x) n k.0 j.0,
-  third-word v room i l (clause_number x) n k.0 j.0,
-  fourth-word v room i l (clause_number x) n k.0 j.0,
+this-level v i n t x None room l e = e
+this-level v i n t x (Some p) room l e = (
+  first_word v room i l (clause_number x) n p.key.0 p.version.0,
+  second_word v room i l (clause_number x) n p.key.0 p.version.0,
+  third-word v room i l (clause_number x) n p.key.0 p.version.0,
+  fourth-word v room i l (clause_number x) n p.key.0 p.version.0,
 )
 
 -- ---- one level
@@ -129,7 +129,7 @@ pub nothing-new : (v : List ℕ) (i : ℕ) {new : Option Failure} → new ≡ no
 nothing-new v i {new} e = rw e (record { here = λ old h. rw (or_else-end old) h; there = λ j l d old h. h; stays-failed = λ j l e. e })
 
 pub takes-failure : (n : ℕ) (s : Store) (u : View) (c : Commit) (live failing : Set) → FailingClauses s u c live failing → (i : ℕ) → i < level_count → ClausesIn i live
-    → {struck clause : ℕ} (f : Found) {before after : List ℕ} → VerdictsRoom before → get_or before i 0 ≡ 0
+    → {struck clause : ℕ} (f : CodeOption Place) {before after : List ℕ} → VerdictsRoom before → get_or before i 0 ≡ 0
     → struck ≡ bit_and (numbers_of (clauses_of (level_at i))) failing → 0 < struck → struck < 2 ^ 64 → clause ≡ lowest struck
     → ((x : Clause) → clause_number x ≡ clause → Fails s u c live x → place_of f ≡ missing_by s u c x) → after ≡ written_down before i clause n f
     → NotesLevel i (fails_clauses n s u c (clauses_of (level_at i))) before after

@@ -1,13 +1,12 @@
 -- How verdicts are kept: "Levels in report order .. A level keeps its first failure" (01, Clauses and levels). Assumes nothing.
-use Rattle.std.specs.Prelude.{ℕ, ◌+◌, ◌*◌, ◌<◌, ◌≡◌, List, [], ◌∷◌, ◌↔◌, ◌≢◌, T, length, get_or, set}
+use Rattle.std.specs.Prelude.{ℕ, ◌+◌, ◌*◌, ◌<◌, ◌≡◌, List, [], ◌∷◌, ◌↔◌, ◌≢◌, T, length, get_or, set, Option as CodeOption, Some, None}
 use Rattle.std.proofs.Math.Option.{Option, some, none}
 use Rattle.search.specs.Choose.{or_else}
 use Rattle.sets.specs.Set.{Set, has, insert}
 use Rattle.store.specs.Store.{View, Store, Commit}
 use Rattle.levels.specs.Clause.{Clause, clause_number, missing_by}
 use Rattle.levels.specs.Level.{Level, SER, levels, clauses_of, Failure}
-use Rattle.state.specs.declared.Found.{Found}
-use Rattle.state.specs.declared.Found.TheVariants.{At, Nothing}
+use Rattle.state.specs.declared.Place.{Place}
 
 -- the levels are so many
 abbrev pub level_count : ℕ
@@ -80,9 +79,9 @@ pub record FailingClauses (s : Store) (u : View) (c : Commit) (live failing : Se
 -- ---- a failure written down
 
 -- the words of the level at place i after a search by a clause; a search that found nothing leaves them
-unfoldable pub written_down : List ℕ → ℕ → ℕ → ℕ → Found → List ℕ
-written_down verdicts i clause n (At k v) = set (set (set (set verdicts (clause_place i) clause) (record_place i) n) (key_place i) k.0) (version_place i) v.0
-written_down verdicts i clause n Nothing = verdicts
+unfoldable pub written_down : List ℕ → ℕ → ℕ → ℕ → CodeOption Place → List ℕ
+written_down verdicts i clause n (Some p) = set (set (set (set verdicts (clause_place i) clause) (record_place i) n) (key_place i) p.key.0) (version_place i) p.version.0
+written_down verdicts i clause n None = verdicts
 
 -- the level at place i keeps its failure, or takes the new one where it had none; the other levels keep theirs; and none that had failed is unfailed again
 pub record NotesLevel (i : ℕ) (new : Option Failure) (before after : List ℕ) : Type 0 where

@@ -115,12 +115,12 @@ pub fn wanted(
 }
 
 // 0 where nothing was found.
-fn found(f: state::Found) -> u64
+fn found(f: Option<state::Place>) -> u64
     ensures { (result ≡ 0) ↔ (place_of f ≡ none) }
 {
     match f {
-        state::Found::At(_, _) => 1,
-        state::Found::Nothing => 0,
+        Some(_) => 1,
+        None => 0,
     }
 }
 

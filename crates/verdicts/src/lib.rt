@@ -53,7 +53,7 @@ pub struct Held {
 pub struct Hand {
     pub seen: u64,
     pub ranks: u64,
-    pub lost: state::Found,
+    pub lost: Option<state::Place>,
     pub session: u64,
     pub absent: u64,
     pub wanted: Wanted,

@@ -21,7 +21,7 @@ pub fn missing_by(
     base: usize,
     fresh: &[u64],
     n: usize,
-) -> state::Found
+) -> Option<state::Place>
     requires { (n ≤ max_keys) × VersionsRoom versions.now × KeysRoom keys.now × (base + n ≤ length views.now) × FreshRoom fresh.now }
     ensures { (s : Store) (u : View) (c : Commit) (values : List ℕ) → Judging s u c h values versions.now keys.now views.now fresh.now base n → (x : Clause) → clause_number x ≡ clause → Fails s u c h.wanted.live x → place_of result ≡ missing_by s u c x }
 {

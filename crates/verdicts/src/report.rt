@@ -14,18 +14,21 @@ use crate::{Hand, Held, Wanted, clauses, missing, table};
 use state::CommitNumber;
 
 // What a search by a clause found for a level.
-fn write_down(verdicts: &mut [u64], level: usize, clause: usize, number: usize, at: state::Found)
+fn write_down(
+    verdicts: &mut [u64],
+    level: usize,
+    clause: usize,
+    number: usize,
+    at: Option<state::Place>,
+)
     requires { VerdictsRoom verdicts.old × (level < level_count) }
     ensures { verdicts.new ≡ written_down verdicts.old level clause number at }
 {
-    match at {
-        state::Found::At(k, v) => {
-            verdicts[level] = clause as u64;
-            verdicts[crate::RECORDS + level] = number as u64;
-            verdicts[crate::KEYS + level] = k.0 as u64;
-            verdicts[crate::VERSIONS + level] = v.0 as u64;
-        }
-        state::Found::Nothing => {}
+    if let Some(place) = at {
+        verdicts[level] = clause as u64;
+        verdicts[crate::RECORDS + level] = number as u64;
+        verdicts[crate::KEYS + level] = place.key.0 as u64;
+        verdicts[crate::VERSIONS + level] = place.version.0 as u64;
     }
 }
 
@@ -110,7 +113,7 @@ pub fn judge(
             return;
         }
     }
-    let mut lost = state::Found::Nothing;
+    let mut lost = None;
     if !plain {
         lost = views::masks::lost(fresh, views, base, n);
     }

@@ -9,7 +9,7 @@ ghost use Rattle.state.specs.Keeps.{IsSet};
 ghost use Rattle.views.specs.Writing.{WriterBelow};
 ghost use Rattle.views.specs.Viewed.{ViewedAs, NewMasks};
 
-use crate::{Viewed, apart, missing, prefix};
+use crate::{apart, missing, prefix};
 
 // The commits that wrote something.
 pub fn all_writers(keys: &[u64], n: usize) -> u64
@@ -36,7 +36,7 @@ pub fn viewed(
     base: usize,
     seen: u64,
     n: usize,
-) -> Viewed
+) -> Result<u64, state::Place>
     requires { (1 ≤ n) × (n ≤ max_keys) × VersionsRoom versions.now × KeysRoom keys.now × FreshRoom fresh.now × (base + n ≤ length views.now) }
     ensures { (s : Store) (old u : View) → NewMasks s old u n versions.now keys.now views.now base seen fresh.now → bad_mask s u ≡ none → ViewedAs s u result }
 {
@@ -44,7 +44,7 @@ pub fn viewed(
         let p = prefix::split(versions, keys, fresh, n);
         let held = p.held;
         if held & p.lacking == 0 {
-            return Viewed::Holds(held);
+            return Ok(held);
         }
     }
     let gained = apart::beyond(versions, fresh, 0, views, base, n);
@@ -52,10 +52,10 @@ pub fn viewed(
     let holds = sets::without(sets::union(seen, gained.all), lost.all);
     let half = sets::union(gained.half, lost.half);
     if half == 0 {
-        return Viewed::Holds(holds);
+        return Ok(holds);
     }
     match missing::least_by_writer(versions, keys, fresh, 0, half, n) {
-        state::Found::At(k, v) => Viewed::Half(k, v),
-        state::Found::Nothing => Viewed::Holds(holds),
+        Some(place) => Err(place),
+        None => Ok(holds),
     }
 }

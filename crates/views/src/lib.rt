@@ -7,10 +7,3 @@ pub mod held;
 pub mod masks;
 pub mod missing;
 mod prefix;
-
-// The commits of which the masks hold a version; or the first version that they lack by a commit of which they hold another.
-#[derive(Clone, Copy)]
-pub enum Viewed {
-    Holds(u64),
-    Half(state::Key, state::VersionNumber),
-}

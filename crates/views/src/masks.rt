@@ -36,25 +36,25 @@ fn wrong(fresh: &[u64], keys: &[u64], n: usize) -> u64
 }
 
 // Code 10: the least key whose mask lacks version 0 or holds a version that does not exist. It is looked for only where some mask is wrong.
-pub fn bad_mask(fresh: &[u64], keys: &[u64], n: usize) -> state::FoundKey
+pub fn bad_mask(fresh: &[u64], keys: &[u64], n: usize) -> Option<state::Key>
     requires { (n ≤ max_keys) × FreshRoom fresh.now × KeysRoom keys.now }
     ensures { (s : Store) (u : View) → s.keys ≡ n → KeepsKeys s keys.now → KeepsMasks n u fresh.now → key_of result ≡ bad_mask s u }
 {
     if wrong(fresh, keys, n) == 0 {
-        return state::FoundKey::NoKey;
+        return None;
     }
     let mut k: usize = 0;
     while k < n {
         let mask = fresh[k];
         if !sets::has(mask, 0) {
-            return state::FoundKey::AtKey(state::Key(k));
+            return Some(state::Key(k));
         }
         if sets::without(mask, keys[k]) != 0 {
-            return state::FoundKey::AtKey(state::Key(k));
+            return Some(state::Key(k));
         }
         k = k + 1;
     }
-    state::FoundKey::NoKey
+    None
 }
 
 // The versions of the view at `base` that the masks lack, of all keys together. All keys are looked at, with no branch.
@@ -73,22 +73,25 @@ fn lacked(fresh: &[u64], views: &[u64], base: usize, n: usize) -> u64
 }
 
 // Code 12 and clause 1: the least version of the view at `base` that the masks lack. It is looked for only where there is one.
-pub fn lost(fresh: &[u64], views: &[u64], base: usize, n: usize) -> state::Found
+pub fn lost(fresh: &[u64], views: &[u64], base: usize, n: usize) -> Option<state::Place>
     requires { (n ≤ max_keys) × FreshRoom fresh.now × (base + n ≤ length views.now) }
     ensures { (s : Store) (old u : View) → s.keys ≡ n → IsView s old → RowAt n views.now base old → KeepsMasks n u fresh.now → place_of result ≡ missing s (all_of old) u }
 {
     if lacked(fresh, views, base, n) == 0 {
-        return state::Found::Nothing;
+        return None;
     }
     let mut k: usize = 0;
     while k < n {
         let left = sets::without(views[base + k], fresh[k]);
         if left != 0 {
-            return state::Found::At(state::Key(k), state::VersionNumber(sets::lowest(left)));
+            return Some(state::Place {
+                key: state::Key(k),
+                version: state::VersionNumber(sets::lowest(left)),
+            });
         }
         k = k + 1;
     }
-    state::Found::Nothing
+    None
 }
 
 // A mask that is not the view's, at a key without operation.
@@ -137,21 +140,21 @@ fn astray(fresh: &[u64], views: &[u64], base: usize, ranks: u64, n: usize) -> u6
 }
 
 // Code 14: the least key without operation where the masks are not the view at `base`. It is looked for only where there is one.
-pub fn stray(fresh: &[u64], views: &[u64], base: usize, ranks: u64, n: usize) -> state::FoundKey
+pub fn stray(fresh: &[u64], views: &[u64], base: usize, ranks: u64, n: usize) -> Option<state::Key>
     requires { (n ≤ max_keys) × FreshRoom fresh.now × (base + n ≤ length views.now) }
     ensures { (s : Store) (old : View) (c : Commit) (values : List ℕ) → s.keys ≡ n → RowAt n views.now base old → KeepsMasks n c.view_after fresh.now → KeepsOperations c ranks values → key_of result ≡ stray s old c }
 {
     if astray(fresh, views, base, ranks, n) == 0 {
-        return state::FoundKey::NoKey;
+        return None;
     }
     let mut k: usize = 0;
     while k < n {
         if strays(fresh[k], views[base + k], ranks, state::Key(k)) {
-            return state::FoundKey::AtKey(state::Key(k));
+            return Some(state::Key(k));
         }
         k = k + 1;
     }
-    state::FoundKey::NoKey
+    None
 }
 
 // Whether the masks are those at `base`. All keys are looked at, with no branch.

@@ -19,18 +19,21 @@ pub fn least_by_writer(
     base: usize,
     set: u64,
     n: usize,
-) -> state::Found
+) -> Option<state::Place>
     requires { (n ≤ max_keys) × VersionsRoom versions.now × KeysRoom keys.now × (base + n ≤ length masks.now) }
     ensures { (s : Store) (u : View) → StoreAndView s u n versions.now keys.now masks.now base → place_of result ≡ missing s (by_writer s set) u }
 {
-    let mut found = state::Found::Nothing;
+    let mut found = None;
     let mut k: usize = 0;
     'search: while k < n {
         let mut left = sets::without(keys[k], masks[base + k]);
         while left != 0 {
             let v = sets::lowest(left);
             if sets::has(set, state::writer_of(versions[state::PER_KEY * k + v]).0) {
-                found = state::Found::At(state::Key(k), state::VersionNumber(v));
+                found = Some(state::Place {
+                    key: state::Key(k),
+                    version: state::VersionNumber(v),
+                });
                 break 'search;
             }
             left = sets::rest(left);
@@ -48,18 +51,21 @@ pub fn least_by_reader(
     base: usize,
     set: u64,
     n: usize,
-) -> state::Found
+) -> Option<state::Place>
     requires { (n ≤ max_keys) × VersionsRoom versions.now × KeysRoom keys.now × (base + n ≤ length masks.now) }
     ensures { (s : Store) (u : View) → StoreAndView s u n versions.now keys.now masks.now base → place_of result ≡ missing s (by_reader s set) u }
 {
-    let mut found = state::Found::Nothing;
+    let mut found = None;
     let mut k: usize = 0;
     'search: while k < n {
         let mut left = sets::without(keys[k], masks[base + k]);
         while left != 0 {
             let v = sets::lowest(left);
             if set & versions[state::READERS + (state::PER_KEY * k + v)] != 0 {
-                found = state::Found::At(state::Key(k), state::VersionNumber(v));
+                found = Some(state::Place {
+                    key: state::Key(k),
+                    version: state::VersionNumber(v),
+                });
                 break 'search;
             }
             left = sets::rest(left);
@@ -71,7 +77,13 @@ pub fn least_by_reader(
 
 // Clause 5: the first version of a key that the commit writes (rank 2 * k + 1) that the view at `base` lacks, in the store before the commit. The keys are
 // those after it, where the mask of such a key has one version more: half of it is the mask before.
-pub fn least_absent(keys: &[u64], masks: &[u64], base: usize, ranks: u64, n: usize) -> state::Found
+pub fn least_absent(
+    keys: &[u64],
+    masks: &[u64],
+    base: usize,
+    ranks: u64,
+    n: usize,
+) -> Option<state::Place>
     requires { (n ≤ max_keys) × KeysRoom keys.now × (base + n ≤ length masks.now) }
     ensures { (s : Store) (u : View) (c : Commit) (values : List ℕ) → Made s u c → s.keys ≡ n → KeepsKeys (update s u c) keys.now → KeepsOperations c ranks values → RowAt n masks.now base u → place_of result ≡ missing s (of_written ranks) u }
 {
@@ -80,10 +92,13 @@ pub fn least_absent(keys: &[u64], masks: &[u64], base: usize, ranks: u64, n: usi
         if sets::has(ranks, 2 * k + 1) {
             let left = sets::without(keys[k] / 2, masks[base + k]);
             if left != 0 {
-                return state::Found::At(state::Key(k), state::VersionNumber(sets::lowest(left)));
+                return Some(state::Place {
+                    key: state::Key(k),
+                    version: state::VersionNumber(sets::lowest(left)),
+                });
             }
         }
         k = k + 1;
     }
-    state::Found::Nothing
+    None
 }

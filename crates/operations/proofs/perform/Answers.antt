@@ -5,16 +5,13 @@ use Rattle.operations.specs.Answers.{ReadsSay}
 use Rattle.operations.proofs.Appended.{reads-then-writes, same-earlier, performed}
 use Rattle.operations.proofs.perform.Goals as goal
 
-pub returns-in-Wrong : goal.returns-in-Wrong
-returns-in-Wrong c = λ s u d g h. subst (ReadsSay s u d _ _ _) c.in-Wrong.is (c.note_reads.ensures s u d g)
-
-pub returns-in-Right : goal.returns-in-Right
-returns-in-Right c =
+pub returns : goal.returns
+returns c =
     let appended = c.append-earlier.ensures in
     let noted = c.note_reads.ensures in
     let t = c.args.me.0 in
     λ s u d g h.
-    let (none, kept, sets) = subst (ReadsSay s u d _ _ _) c.in-Right.is (noted s u d g) in
+    let (none, kept, sets) = subst (ReadsSay s u d _ _ _) c.in_ok-read.was (noted s u d g) in
     let x = appended (reads_noted s u d t) d (reads-then-writes g t _ _ h kept) in (
       none,
       λ e. performed g t e _ _ (x.0, x.1),

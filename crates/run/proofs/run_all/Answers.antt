@@ -95,17 +95,17 @@ returns-in_err-records_form-clause-form c =
     let rest = rw c.in_err-records_form.was at c.records_form.ensures in
     rw is (turn-rest t (omega (arith, c.loop-number-test.true)) _ rest)
 
-pub returns-in-Refused-clause-form : goal.returns-in-Refused-clause-form
-returns-in-Refused-clause-form c =
-    let t = next-turn (goal.at.returns-in-Refused-clause-form c).After-commits_with-made in
+pub returns-in-Err-outcome-clause-form : goal.returns-in-Err-outcome-clause-form
+returns-in-Err-outcome-clause-form c =
+    let t = next-turn (goal.at.returns-in-Err-outcome-clause-form c).After-commits_with-made in
     let rest = rw c.in_ok-records_form.was at c.records_form.ensures in
     form-whole _ _ _ (turn-rest t (omega (arith, c.loop-number-test.true)) _ rest)
 
-pub returns-in-Refused-clause-meaning : goal.returns-in-Refused-clause-meaning
-returns-in-Refused-clause-meaning c =
-    let k = (goal.at.returns-in-Refused-clause-meaning c).In-Ok in
+pub returns-in-Err-outcome-clause-meaning : goal.returns-in-Err-outcome-clause-meaning
+returns-in-Err-outcome-clause-meaning c =
+    let k = (goal.at.returns-in-Err-outcome-clause-meaning c).In-Ok in
     λ rs s.
-        run-stops (run-reads (c.loop-number.invariant.3 rs s) c.read_turn.ensures.sorted.1) (bytes k) c.requires.le_n.2 (some_left k) _ _ (says k).0 _ _ _ _ _ _ _ _ _ _ c.one_record-outcome.ensures c.in-Refused.is
+    run-stops (run-reads (c.loop-number.invariant.3 rs s) c.read_turn.ensures.sorted.1) (bytes k) c.requires.le_n.2 (some_left k) _ _ (says k).0 _ _ _ _ _ _ _ _ _ _ c.one_record-outcome.ensures c.in-Err-outcome.is
 
 pub loop-number-preserved : goal.loop-number-preserved
 loop-number-preserved c =

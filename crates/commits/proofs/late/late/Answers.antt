@@ -1,8 +1,5 @@
 -- `commits::late::late` meets its contract. Assumes nothing.
-use Prim.Native.Nat.{ℕ}
-use mathlib.Core.Path.{◌≡◌, refl, subst}
-use mathlib.Core.List.{List}
-use native.Mathlib.Omega.{arith}
+use Rattle.std.proofs.Common.{ℕ, ◌≡◌, refl, subst, List, Err, arith, rules}
 use Rattle.store.specs.Store.{Configuration, Commit}
 use Rattle.store.specs.Update.{view_before}
 use Rattle.growth.specs.Made.{Writes}
@@ -10,7 +7,6 @@ use Rattle.state.specs.Keeps.{IsSet}
 use Rattle.shifts.proofs.Refused.{not_taken}
 use Rattle.commits.specs.Codes.{LateGiven, AfterSays, JudgeGiven}
 use Rattle.commits.proofs.Cases.{late-kept, judged-after, noted}
-use borrow.Author.Rules.{rules}
 use Rattle.commits.proofs.late.late.Goals as goal
 use Rattle.commits.proofs.late.late.Goals.{After-own_number-own, After-sight_after}
 
@@ -34,17 +30,22 @@ offset_bounds-seen-client c = let l = c.requires.2 in search rules
 pub bounds-seen-client : goal.bounds-seen-client
 bounds-seen-client c = let l = c.requires.2 in let room = c.requires.9 in search rules
 
-pub returns-in-Bad : goal.returns-in-Bad
-returns-in-Bad c = λ g e values fs h j k. (subst (AfterSays _ g e) c.in-Bad.is (said (goal.at.returns-in-Bad c).After-sight_after g e values h j (own_is (goal.at.returns-in-Bad c).After-own_number-own g e values h)), not_taken _ refl)
+pub returns-in_err-after : goal.returns-in_err-after
+returns-in_err-after c =
+    let handed : c.from_residual.result ≡ Err c.in_err-after.field-0.0 = search rules in
+    rw handed (λ g e values fs h j k. (
+      subst (AfterSays _ g e) c.in_err-after.was (said (goal.at.returns-in_err-after c).After-sight_after g e values h j (own_is (goal.at.returns-in_err-after c).After-own_number-own g e values h)),
+      not_taken _ refl,
+    ))
 
-pub returns-in-Holds : goal.returns-in-Holds
-returns-in-Holds c =
+pub returns : goal.returns
+returns c =
     let p = c.requires in
     λ g e values fs h j k.
-    let x = subst (AfterSays _ g e) c.in-Holds.is (said (goal.at.returns-in-Holds c).After-sight_after g e values h j (own_is (goal.at.returns-in-Holds c).After-own_number-own g e values h)) in (
+    let x = subst (AfterSays _ g e) c.in_ok-after.was (said (goal.at.returns c).After-sight_after g e values h j (own_is (goal.at.returns c).After-own_number-own g e values h)) in (
       x.0,
       λ taken. (
         late-kept h p.2 p.1 _ c.store_and_keep.ensures x.1,
-        noted g e _ fs (c.judge_by.ensures g.store (view_before g e) e values fs (judged-after h p.2 _ j (own_is (goal.at.returns-in-Holds c).After-own_number-own g e values h) x) j.asked k),
+        noted g e _ fs (c.judge_by.ensures g.store (view_before g e) e values fs (judged-after h p.2 _ j (own_is (goal.at.returns c).After-own_number-own g e values h) x) j.asked k),
       ),
     )

@@ -1,7 +1,5 @@
 -- `commits::late::sight_after` meets its contract. Assumes nothing.
-use Prim.Native.Nat.{ℕ}
-use mathlib.Core.Path.{◌≡◌, sym, ap, subst, ◌∙◌}
-use mathlib.Core.List.{List}
+use Rattle.std.proofs.Common.{ℕ, ◌≡◌, sym, ap, subst, ◌∙◌, List, Err, rules}
 use Rattle.search.proofs.Tests.{true-T}
 use Rattle.store.specs.Store.{Configuration, Commit}
 use Rattle.store.specs.Update.{view_before, store_after}
@@ -28,18 +26,20 @@ returns-then-plain c = λ g e values me h adds own.
     let plain = adds (true-T _ c.if-plain.true) in
     (own-not-refused h plain _, own-seen h plain c.requires.2 _ own c.union.ensures)
 
-pub returns-in-AtKey : goal.returns-in-AtKey
-returns-in-AtKey c =
+pub returns-in-Some : goal.returns-in-Some
+returns-in-Some c =
     λ g e values me h adds own.
-    late-stray _ g e (subst (SightSays _ (store_after g e) e.view_after) c.in-Holds.is (said (goal.at.returns-in-AtKey c).After-sight g e values me h)).0
-    (sym (stray-is (goal.at.returns-in-AtKey c).After-stray g e values me h) ∙ ap key_of c.in-AtKey.is) c.of_key.ensures
+    late-stray _ g e (subst (SightSays _ (store_after g e) e.view_after) c.in_ok-held.was (said (goal.at.returns-in-Some c).After-sight g e values me h)).0
+    (sym (stray-is (goal.at.returns-in-Some c).After-stray g e values me h) ∙ ap key_of c.in-Some.is) c.of_key.ensures
 
-pub returns-in-Bad : goal.returns-in-Bad
-returns-in-Bad c = λ g e values me h adds own.
-    late-bad _ g e (subst (SightSays _ (store_after g e) e.view_after) c.in-Bad.is (said (goal.at.returns-in-Bad c).After-sight g e values me h))
+pub returns-in_err-held : goal.returns-in_err-held
+returns-in_err-held c =
+    let handed : c.from_residual.result ≡ Err c.in_err-held.field-0.0 = search rules in
+    rw handed (λ g e values me h adds own.
+    late-bad _ g e (subst (SightSays _ (store_after g e) e.view_after) c.in_err-held.was (said (goal.at.returns-in_err-held c).After-sight g e values me h)))
 
-pub returns-in_default : goal.returns-in_default
-returns-in_default c =
+pub returns : goal.returns
+returns c =
     λ g e values me h adds own.
-    let x = subst (SightSays _ (store_after g e) e.view_after) c.in-Holds.is (said (goal.at.returns-in_default c).After-sight g e values me h) in
-    (late-none _ g e x.0 (sym (stray-is (goal.at.returns-in_default c).After-stray g e values me h) ∙ ap key_of c.in_default.is), x.1)
+    let x = subst (SightSays _ (store_after g e) e.view_after) c.in_ok-held.was (said (goal.at.returns c).After-sight g e values me h) in
+    (late-none _ g e x.0 (sym (stray-is (goal.at.returns c).After-stray g e values me h) ∙ ap key_of c.in_default.is), x.1)

@@ -1,8 +1,5 @@
 -- `shifts::shift::shift_on` meets its contract. Assumes nothing.
-use Prim.Native.Nat.{◌*◌}
-use mathlib.Core.Path.{◌≡◌, refl, sym, ap, subst, ◌∙◌}
-use lib.ListN.{get_or}
-use native.Mathlib.Omega.{arith}
+use Rattle.std.proofs.Common.{◌*◌, ◌≡◌, refl, sym, ap, subst, ◌∙◌, get_or, Err, arith, rules}
 use Rattle.search.proofs.Tests.{true-T}
 use Rattle.store.specs.Limits.{max_keys}
 use Rattle.store.specs.Store.{View, Configuration}
@@ -47,24 +44,25 @@ returns-then-same c = record {
   kept = λ g u h f. c.whole_store.ensures.kept g u _ h f;
 }
 
-pub returns-in-At : goal.returns-in-At
-returns-in-At c = record {
+pub returns-in-Some : goal.returns-in-Some
+returns-in-Some c = record {
   answer = λ g u h f.
-      refused-12 _ g _ u (subst (SightSays _ g.store u) c.in-Holds.is (said (goal.at.returns-in-At c).After-sight g u (h, f))).0
-      (sym (lost-is (goal.at.returns-in-At c).After-lost g u (h, f)) ∙ ap place_of c.in-At.is) c.of_version.ensures;
+      refused-12 _ g _ u (subst (SightSays _ g.store u) c.in_ok-held.was (said (goal.at.returns-in-Some c).After-sight g u (h, f))).0
+      (sym (lost-is (goal.at.returns-in-Some c).After-lost g u (h, f)) ∙ ap place_of c.in-Some.is) c.of_version.ensures;
   kept = λ g u h f. not_taken _ refl;
 }
 
-pub returns-in-Bad : goal.returns-in-Bad
-returns-in-Bad c = record {
-  answer = λ g u h f. refused-masks _ g _ u (subst (SightSays _ g.store u) c.in-Bad.is (said (goal.at.returns-in-Bad c).After-sight g u (h, f)));
-  kept = λ g u h f. not_taken _ refl;
-}
+pub returns-in_err-held : goal.returns-in_err-held
+returns-in_err-held c =
+    let handed : c.from_residual.result ≡ Err c.in_err-held.field-0.0 = search rules in rw handed (record {
+      answer = λ g u h f. refused-masks _ g _ u (subst (SightSays _ g.store u) c.in_err-held.was (said (goal.at.returns-in_err-held c).After-sight g u (h, f)));
+      kept = λ g u h f. not_taken _ refl;
+    })
 
-pub returns-in_default : goal.returns-in_default
-returns-in_default c =
-    let at = (goal.at.returns-in_default c).After-sight in
+pub returns : goal.returns
+returns c =
+    let at = (goal.at.returns c).After-sight in
     let small = c.requires.le_n in record {
-      answer = λ g u h f. not-refused _ g _ u (subst (SightSays _ g.store u) c.in-Holds.is (said at g u (h, f))).0 (sym (lost-is (goal.at.returns-in_default c).After-lost g u (h, f)) ∙ ap place_of c.in_default.is);
-      kept = λ g u h f e. shift-replaces g _ u _ (omega (arith, small)) h.keys-are (omega (arith, small)) _ _ _ _ _ h.in-views f c.keep.ensures (subst (SightSays _ g.store u) c.in-Holds.is (said at g u (h, f))).1;
+      answer = λ g u h f. not-refused _ g _ u (subst (SightSays _ g.store u) c.in_ok-held.was (said at g u (h, f))).0 (sym (lost-is (goal.at.returns c).After-lost g u (h, f)) ∙ ap place_of c.in_default.is);
+      kept = λ g u h f e. shift-replaces g _ u _ (omega (arith, small)) h.keys-are (omega (arith, small)) _ _ _ _ _ h.in-views f c.keep.ensures (subst (SightSays _ g.store u) c.in_ok-held.was (said at g u (h, f))).1;
     }

@@ -4,19 +4,19 @@ use lib.ListN.{length-set}
 use Rattle.verdicts.specs.Verdicts.{written_down}
 use Rattle.verdicts.proofs.report.write_down.Goals as goal
 
-pub bounds-verdicts-level-in-At : goal.bounds-verdicts-level-in-At
-bounds-verdicts-level-in-At c = simp length-set (omega arith)
+pub bounds-verdicts-level-in-Some : goal.bounds-verdicts-level-in-Some
+bounds-verdicts-level-in-Some c = simp length-set (omega arith)
 
-pub bounds-verdicts-level-in-At-2 : goal.bounds-verdicts-level-in-At-2
-bounds-verdicts-level-in-At-2 c = simp length-set (omega arith)
+pub bounds-verdicts-level-in-Some-2 : goal.bounds-verdicts-level-in-Some-2
+bounds-verdicts-level-in-Some-2 c = simp length-set (omega arith)
 
-pub bounds-verdicts-level-in-At-3 : goal.bounds-verdicts-level-in-At-3
-bounds-verdicts-level-in-At-3 c = simp length-set (omega arith)
+pub bounds-verdicts-level-in-Some-3 : goal.bounds-verdicts-level-in-Some-3
+bounds-verdicts-level-in-Some-3 c = simp length-set (omega arith)
 
-pub returns-in-At : goal.returns-in-At
+pub returns-in-Some : goal.returns-in-Some
 unfolding written_down
-returns-in-At c = rw c.in-At.is
+returns-in-Some c = rw c.in-Some.is
 
-pub returns-in-Nothing : goal.returns-in-Nothing
+pub returns-in_default : goal.returns-in_default
 unfolding written_down
-returns-in-Nothing c = rw c.in-Nothing.is
+returns-in_default c = rw c.in_default.is

@@ -20,19 +20,19 @@ returns-then-half-eq0 c =
     let whole = none-half s old u _ _ _ _ _ _ _ m good g l half c.if-half-eq0.true in
     (whole, holds-is s old u _ _ _ _ _ _ _ m good g l half whole c.union.ensures c.without-holds.ensures)
 
-pub returns-in-At : goal.returns-in-At
-returns-in-At c =
+pub returns-in-Some : goal.returns-in-Some
+returns-in-Some c =
     λ s old u m good.
     let g = c.beyond-gained.ensures s u old (of-gain s old u _ _ _ _ _ _ _ m good) (masks-row m.in-fresh) m.arrays.in-masks in
     let l = c.beyond-lost.ensures s old u (of-loss s old u _ _ _ _ _ _ _ m good) m.arrays.in-masks (masks-row m.in-fresh) in
     let half = c.union-half.ensures in
-    half-same s old u _ _ _ _ _ _ _ m good g l half ∙ sym (c.least_by_writer.ensures s u (with-fresh s old u _ _ _ _ _ _ _ m good)) ∙ ap place_of c.in-At.is
+    half-same s old u _ _ _ _ _ _ _ m good g l half ∙ sym (c.least_by_writer.ensures s u (with-fresh s old u _ _ _ _ _ _ _ m good)) ∙ ap place_of c.in-Some.is
 
-pub returns-in-Nothing : goal.returns-in-Nothing
-returns-in-Nothing c =
+pub returns-in-None : goal.returns-in-None
+returns-in-None c =
     λ s old u m good.
     let g = c.beyond-gained.ensures s u old (of-gain s old u _ _ _ _ _ _ _ m good) (masks-row m.in-fresh) m.arrays.in-masks in
     let l = c.beyond-lost.ensures s old u (of-loss s old u _ _ _ _ _ _ _ m good) m.arrays.in-masks (masks-row m.in-fresh) in
     let half = c.union-half.ensures in
-    let whole = half-same s old u _ _ _ _ _ _ _ m good g l half ∙ sym (c.least_by_writer.ensures s u (with-fresh s old u _ _ _ _ _ _ _ m good)) ∙ ap place_of c.in-Nothing.is in
+    let whole = half-same s old u _ _ _ _ _ _ _ m good g l half ∙ sym (c.least_by_writer.ensures s u (with-fresh s old u _ _ _ _ _ _ _ m good)) ∙ ap place_of c.in-None.is in
     (whole, holds-is s old u _ _ _ _ _ _ _ m good g l half whole c.union.ensures c.without-holds.ensures)

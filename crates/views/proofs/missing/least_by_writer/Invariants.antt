@@ -1,23 +1,23 @@
 -- `views::missing::least_by_writer` meets its contract. The outer loop's invariant: nothing is missing at the keys passed; the inner one's: each version that is
 -- wanted and lacking at the key is among those that are left. Assumes nothing.
+use Rattle.std.specs.Prelude.{None}
 use Rattle.std.proofs.Common.{◌≡◌, ℕ, ◌-◌, ◌<◌, ◌≤◌}
 use Rattle.store.specs.Store.{View, Store}
 use Rattle.store.proofs.Missing.{MetAt}
-use Rattle.state.specs.declared.Found.TheVariants.{Nothing}
 use Rattle.views.specs.Rules.{StoreAndView, by_writer}
 use Rattle.views.proofs.Looking.{Looking}
 use Rattle.views.proofs.missing.least_by_writer.Given as goal
 
 abbrev pub invariant-loop-left : goal.invariant-loop-left
 invariant-loop-left l =
-    (l.found ≡ Nothing) × (l.k < l.n) × ((s : Store) (u : View) → StoreAndView s u l.n l.versions l.keys l.masks l.base → Looking s (by_writer s l.set) u l.k l.left)
+    (l.found ≡ None) × (l.k < l.n) × ((s : Store) (u : View) → StoreAndView s u l.n l.versions l.keys l.masks l.base → Looking s (by_writer s l.set) u l.k l.left)
 
 abbrev pub decreases-loop-left : goal.decreases-loop-left
 decreases-loop-left l = l.left
 
 abbrev pub invariant-search : goal.invariant-search
 invariant-search l =
-    (l.k ≤ l.n) × (l.found ≡ Nothing) × ((s : Store) (u : View) → StoreAndView s u l.n l.versions l.keys l.masks l.base → (j : ℕ) → j < l.k → MetAt s (by_writer s l.set) u j)
+    (l.k ≤ l.n) × (l.found ≡ None) × ((s : Store) (u : View) → StoreAndView s u l.n l.versions l.keys l.masks l.base → (j : ℕ) → j < l.k → MetAt s (by_writer s l.set) u j)
 
 abbrev pub decreases-search : goal.decreases-search
 decreases-search l = l.n - l.k
