@@ -49,13 +49,11 @@ pub fn size(edition: Edition, file: &[u8], h: Header) -> usize
     let mut fresh = [0u64; state::FRESH];
     let mut sum = Store::HEADER;
     let mut at = Store::HEADER;
-    let mut left = h.records;
-    while 0 < left {
+    for _ in 0..h.records {
         let known = trace::records::known_at(file, at, h.keys);
         let record = known.record;
         sum = sum + one_length(edition, file, record, &mut views, &mut fresh, h.keys);
         at = known.next;
-        left = left - 1;
     }
     sum
 }
@@ -95,14 +93,12 @@ pub fn write(edition: Edition, file: &[u8], buffer: &mut [u8], h: Header)
     let mut fresh = [0u64; state::FRESH];
     let mut to = Store::HEADER;
     let mut at = Store::HEADER;
-    let mut left = h.records;
-    while 0 < left {
+    for _ in 0..h.records {
         let known = trace::records::known_at(file, at, h.keys);
         let record = known.record;
         to = write_one(
             edition, file, record, buffer, to, &mut views, &mut fresh, h.keys,
         );
         at = known.next;
-        left = left - 1;
     }
 }

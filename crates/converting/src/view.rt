@@ -46,12 +46,10 @@ pub fn differing(views: &[u64], base: usize, fresh: &[u64], n: usize) -> u64
     ensures { (before u : View) → RowAt n views.now base before → RowAt n fresh.now 0 u → result ≡ changed n before u }
 {
     let mut listed: u64 = 0;
-    let mut k: usize = 0;
-    while k < n {
-        if fresh[k] != views[base + k] {
+    for (k, mask) in fresh[..n].iter().enumerate() {
+        if *mask != views[base + k] {
             listed = sets::insert(listed, k);
         }
-        k = k + 1;
     }
     listed
 }

@@ -32,10 +32,8 @@ pub fn size(keys: &[u64], n: usize, count: usize) -> usize
     ensures value_2 { (s : Store) → KeepsKeys s keys.now → s.keys ≡ n → s.commits ≡ count → result ≡ length (image s) }
 {
     let mut sum: usize = 8 + commits_size(n, count);
-    let mut k: usize = 0;
-    while k < n {
-        sum = sum + (4 + 16 * sets::size(keys[k]));
-        k = k + 1;
+    for full in &keys[..n] {
+        sum = sum + (4 + 16 * sets::size(*full));
     }
     sum
 }
@@ -76,11 +74,9 @@ fn write_commits(buffer: &mut [u8], commits: &[u64], views: &[u64], n: usize, co
         → buffer.new ≡ put_at buffer.old 8 (pieces count (λ i. commit_bytes s (suc i))) }
 {
     let mut at: usize = 8;
-    let mut i: usize = 0;
-    while i < count {
+    for i in 0..count {
         let took = write_commit(&mut buffer[at..], commits, views, CommitNumber(i + 1), n);
         at = at + took;
-        i = i + 1;
     }
 }
 
@@ -92,13 +88,11 @@ fn write_key(part: &mut [u8], versions: &[u64], k: Key, n: usize) -> usize
         → part.new ≡ put_at part.old 0 (key_bytes s k.0) }
 {
     endian::put_u32(part, 0, n as u32);
-    let mut i: usize = 0;
-    while i < n {
+    for i in 0..n {
         let from = state::PER_KEY * k.0 + i;
         let to = 4 + 16 * i;
         endian::put_u64(part, to, versions[from]);
         endian::put_u64(part, to + 8, versions[state::READERS + from]);
-        i = i + 1;
     }
     4 + 16 * n
 }
@@ -112,11 +106,9 @@ fn write_keys(buffer: &mut [u8], versions: &[u64], keys: &[u64], n: usize, start
         → buffer.new ≡ put_at buffer.old start (pieces n (key_bytes s)) }
 {
     let mut at = start;
-    let mut k: usize = 0;
-    while k < n {
-        let took = write_key(&mut buffer[at..], versions, Key(k), sets::size(keys[k]));
+    for (k, full) in keys[..n].iter().enumerate() {
+        let took = write_key(&mut buffer[at..], versions, Key(k), sets::size(*full));
         at = at + took;
-        k = k + 1;
     }
 }
 

@@ -1,8 +1,8 @@
 -- Counts as the code makes them: the keys of operations one after the other, and the masks that are listed key by key. Assumes nothing.
-use Prim.Native.Nat.{ℕ, zero, suc, ◌+◌, ◌-◌, ◌/◌, ◌^◌, ◌≤◌, ◌<◌}
-use mathlib.Core.Path.{◌≡◌, refl, ap, ◌∙◌}
+use Prim.Native.Nat.{ℕ, zero, suc, ◌+◌, ◌-◌, ◌*◌, ◌/◌, ◌^◌, ◌≤◌, ◌<◌}
+use mathlib.Core.Path.{◌≡◌, refl}
 use mathlib.Core.Logic.{◌≢◌}
-use mathlib.Core.List.{List}
+use mathlib.Core.List.{List, ◌∷◌}
 use native.Mathlib.Omega.{arith}
 use native.Mathlib.Nat.{div-eq_of_lt, div-lt_iff_lt-mul}
 use native.Mathlib.Decide.{dec_lt}
@@ -12,7 +12,7 @@ use Rattle.search.specs.Choose.{choose}
 use Rattle.endian.specs.Endian.{Bytes, le_at}
 use Rattle.endian.proofs.Laws.{le_at-lt}
 use Rattle.trace.specs.Listed.{keys_after, keys_in}
-use Rattle.trace.specs.Format.{operations_at}
+use Rattle.trace.specs.Format.{operation_at, operations_at}
 
 -- the operations from a place on after one of key j, one by one
 module _ (s : List ℕ) where
@@ -28,13 +28,24 @@ module _ (s : List ℕ) where
   unfolding operations_at keys_after
   keys-done j at left e = rw e refl
 
-  pub keys-same : (j at left : ℕ) → 0 < left → le_at s (at + 1) 1 ≡ j → keys_after j (operations_at s at left) ≡ keys_after (le_at s (at + 1) 1) (operations_at s (at + 8) (left - 1))
-  unfolding operations_at keys_after choose
-  keys-same j at left some e = let more : left ≡ suc (left - 1) = omega arith in ap (λ (n : ℕ). keys_after j (operations_at s at n)) more ∙ rw (eq-eqb (le_at s (at + 1) 1) j e) (omega arith)
+  -- one more of the m operations from `start` on
+  module _ (start m i j : ℕ) (more : i < m) where
+    after-one : operations_at s (start + 8 * i) (m - i) ≡ operation_at s (start + 8 * i) ∷ operations_at s (start + 8 * (i + 1)) (m - (i + 1))
+    unfolding operations_at
+    after-one =
+        let left : m - i ≡ suc (m - (i + 1)) = omega arith in
+        let next : start + 8 * i + 8 ≡ start + 8 * (i + 1) = omega arith in
+        rw (left, next)
 
-  pub keys-other : (j at left : ℕ) → 0 < left → le_at s (at + 1) 1 ≢ j → keys_after j (operations_at s at left) ≡ suc (keys_after (le_at s (at + 1) 1) (operations_at s (at + 8) (left - 1)))
-  unfolding operations_at keys_after choose
-  keys-other j at left some e = let more : left ≡ suc (left - 1) = omega arith in ap (λ (n : ℕ). keys_after j (operations_at s at n)) more ∙ rw (ne_eqb (le_at s (at + 1) 1) j e) (omega arith)
+    pub keys-same : le_at s (start + 8 * i + 1) 1 ≡ j
+        → keys_after j (operations_at s (start + 8 * i) (m - i)) ≡ keys_after (le_at s (start + 8 * i + 1) 1) (operations_at s (start + 8 * (i + 1)) (m - (i + 1)))
+    unfolding keys_after choose
+    keys-same e = rw (after-one, eq-eqb (le_at s (start + 8 * i + 1) 1) j e) (omega arith)
+
+    pub keys-other : le_at s (start + 8 * i + 1) 1 ≢ j
+        → keys_after j (operations_at s (start + 8 * i) (m - i)) ≡ suc (keys_after (le_at s (start + 8 * i + 1) 1) (operations_at s (start + 8 * (i + 1)) (m - (i + 1))))
+    unfolding keys_after choose
+    keys-other e = rw (after-one, ne_eqb (le_at s (start + 8 * i + 1) 1) j e) (omega arith)
 
 -- ---- a set within the keys
 

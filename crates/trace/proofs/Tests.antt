@@ -1,5 +1,5 @@
 -- What the tests of the format that are made of several tests say of the numbers. Assumes nothing.
-use Prim.Native.Nat.{ℕ, zero, suc, ◌+◌, ◌-◌, ◌/◌, ◌%◌, ◌≤◌, ◌<◌}
+use Prim.Native.Nat.{ℕ, zero, suc, ◌+◌, ◌/◌, ◌%◌, ◌≤◌, ◌<◌}
 use mathlib.Core.Path.{◌≡◌, refl}
 use mathlib.Core.Logic.{◌≢◌, ◌↔◌}
 use mathlib.Core.Bool.{Bool, true, false, ◌&&◌}
@@ -53,11 +53,10 @@ low-stops true rank e none = absurd (omega arith)
 low-stops false rank e none = refl
 
 -- operations in turn: the first fits, and the others are tested from above its rank
-pub operations_fit-next : (s : List ℕ) (at keys low left : ℕ) {above : ℕ} → 0 < left → operation_fits s at keys low ≡ true → above ≡ rank_at s at + 1
-    → operations_fit s at keys low left ≡ operations_fit s (at + 8) keys above (left - 1)
+pub operations_fit-next : (s : List ℕ) (at keys low left : ℕ) {next others above : ℕ} → next ≡ at + 8 → left ≡ suc others → operation_fits s at keys low ≡ true → above ≡ rank_at s at + 1
+    → operations_fit s at keys low left ≡ operations_fit s next keys above others
 unfolding operations_fit
-operations_fit-next s at keys low zero some e a = absurd (omega arith)
-operations_fit-next s at keys low (suc n) some e a = let others : suc n - 1 ≡ n = omega arith in rw (e, a, add-one (rank_at s at), others)
+operations_fit-next s at keys low left is_next more fits a = rw (more, is_next, fits, a, add-one (rank_at s at))
 
 -- the first does not
 pub operations_fit-stop : (s : List ℕ) (at keys low left : ℕ) → 0 < left → operation_fits s at keys low ≡ false → operations_fit s at keys low left ≡ false

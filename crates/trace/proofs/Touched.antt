@@ -1,7 +1,7 @@
 -- The keys of operations, gathered into a set one operation after the other. Assumes nothing.
 use Prim.Native.Nat.{ℕ, suc, ◌+◌, ◌-◌, ◌*◌, ◌^◌, ◌≤◌, ◌<◌}
 use mathlib.Core.Path.{◌≡◌, refl, sym, ap, ◌∙◌}
-use mathlib.Core.Bool.{Bool, true, false, ◌||◌}
+use mathlib.Core.Bool.{Bool, true, false, ◌&&◌, ◌||◌}
 use mathlib.Core.List.{List}
 use native.Mathlib.Omega.{arith}
 use lib.Dec.{T, eqb, eqb→eq}
@@ -24,24 +24,26 @@ use Rattle.trace.specs.WellFormed.{Rise}
 use Rattle.trace.proofs.Tests.{operation_fits-is}
 use Rattle.trace.proofs.Listed.{touched-key, keys_in-how_many}
 
--- of the m operations from `start` on, the keys of those before `at` are in a set, and `left` are not looked at
-pub record Gathered (s : List ℕ) (start m : ℕ) (listed : Set) (at left : ℕ) : Type 0 where
+-- of the m operations from `start` on, the keys of the first i are in a set
+pub record Gathered (s : List ℕ) (start m : ℕ) (listed : Set) (i : ℕ) : Type 0 where
   pub keys : ℕ
   pub few : keys ≤ max_keys
   pub low : ℕ
-  pub fit : operations_fit s at keys low left ≡ true
-  pub within : at + 8 * left ≤ length s
-  pub all : (k : ℕ) → (has listed k || touched (operations_at s at left) k) ≡ touched (operations_at s start m) k
+  pub fit : operations_fit s (start + 8 * i) keys low (m - i) ≡ true
+  pub within : start + 8 * m ≤ length s
+  pub all : (k : ℕ) → (has listed k || touched (operations_at s (start + 8 * i) (m - i)) k) ≡ touched (operations_at s start m) k
 
-pub gathered_none : (s : List ℕ) (start m : ℕ) → ((keys : ℕ) × (keys ≤ max_keys) × OperationsFit s keys start m) → Gathered s start m 0 start m
-gathered_none s start m (keys, few, (within, fit)) = record {
-  keys = keys;
-  few = few;
-  low = 0;
-  fit = fit;
-  within = within;
-  all = λ k. ap (λ (b : Bool). b || touched (operations_at s start m) k) (T_false (has 0 k) (has-none k));
-}
+pub gathered_none : (s : List ℕ) (start m : ℕ) → ((keys : ℕ) × (keys ≤ max_keys) × OperationsFit s keys start m) → Gathered s start m 0 0
+gathered_none s start m (keys, few, (within, fit)) =
+    let here : start + 8 * 0 ≡ start = omega arith in
+    let whole : m - 0 ≡ m = omega arith in record {
+      keys = keys;
+      few = few;
+      low = 0;
+      fit = rw (here, whole) fit;
+      within = within;
+      all = λ k. rw (here, whole) (ap (λ (b : Bool). b || touched (operations_at s start m) k) (T_false (has 0 k) (has-none k)));
+    }
 
 -- the first of two may be asked after the second
 second-first : (a b c : Bool) → ((a || b) || c) ≡ (b || (a || c))
@@ -50,32 +52,52 @@ second-first true false c = refl
 second-first false true c = refl
 second-first false false c = refl
 
-module _ {s : List ℕ} {start m at left : ℕ} {listed : Set} (h : Gathered s start m listed at left) (more : 0 < left) where
-  first-and-others : T (operation_fits s at h.keys h.low) × T (operations_fit s (at + 8) h.keys (suc (rank_at s at)) (left - 1))
-  unfolding operations_fit
+module _ {s : List ℕ} {start m i : ℕ} {listed : Set} (h : Gathered s start m listed i) (more : i < m) where
+  at : ℕ
+  at = start + 8 * i
+
+  next : ℕ
+  next = start + 8 * (i + 1)
+
+  left : ℕ
+  left = m - (i + 1)
+
+  one_left : m - i ≡ suc left
+  unfolding left
+  one_left = omega arith
+
+  next_at : at + 8 ≡ next
+  unfolding at next
+  next_at = omega arith
+
+  first-and-others : T (operation_fits s at h.keys h.low) × T (operations_fit s next h.keys (suc (rank_at s at)) left)
+  unfolding operations_fit at
   first-and-others =
-      let one_left : left ≡ suc (left - 1) = omega arith in
-      and_yes (operation_fits s at h.keys h.low) (operations_fit s (at + 8) h.keys (suc (rank_at s at)) (left - 1))
-      (true-T _ (ap (operations_fit s at h.keys h.low) (sym one_left) ∙ h.fit))
+      and_yes (operation_fits s at h.keys h.low) (operations_fit s next h.keys (suc (rank_at s at)) left)
+      (true-T _ (ap (λ (p : ℕ). operation_fits s at h.keys h.low && operations_fit s p h.keys (suc (rank_at s at)) left) (sym next_at) ∙ ap (operations_fit s at h.keys h.low) (sym one_left) ∙ h.fit))
 
   -- the key of the next operation is one of the store
-  pub gathered-key : le_at s (at + 1) 1 < max_keys
+  pub gathered-key : le_at s (start + 8 * i + 1) 1 < max_keys
+  unfolding at
   gathered-key = let (access, key, zeros, rises) = (operation_fits-is s at h.keys h.low).0 first-and-others.0 in let few = h.few in omega arith
 
-  next-touched : (k : ℕ) → touched (operations_at s at left) k ≡ (eqb (le_at s (at + 1) 1) k || touched (operations_at s (at + 8) (left - 1)) k)
+  next-touched : (k : ℕ) → touched (operations_at s at (m - i)) k ≡ (eqb (le_at s (at + 1) 1) k || touched (operations_at s next left) k)
   unfolding operations_at touched
-  next-touched k = let one_left : left ≡ suc (left - 1) = omega arith in ap (λ (n : ℕ). touched (operations_at s at n) k) one_left
+  next-touched k =
+      ap (λ (n : ℕ). touched (operations_at s at n) k) one_left
+      ∙ ap (λ (p : ℕ). eqb (le_at s (at + 1) 1) k || touched (operations_at s p left) k) next_at
 
-  pub gathered-more : {key : ℕ} {after : Set} → key ≡ le_at s (at + 1) 1 → after ≡ insert key listed → Gathered s start m after (at + 8) (left - 1)
+  pub gathered-more : {key : ℕ} {after : Set} → key ≡ le_at s (start + 8 * i + 1) 1 → after ≡ insert key listed → Gathered s start m after (i + 1)
+  unfolding at next left
   gathered-more {key} is_key is-after = rw (is-after, is_key) (record {
     keys = h.keys;
     few = h.few;
     low = suc (rank_at s at);
     fit = T_true _ first-and-others.1;
-    within = let w = h.within in omega arith;
+    within = h.within;
     all = λ k.
-        ap (λ (b : Bool). b || touched (operations_at s (at + 8) (left - 1)) k) (has-insert-is (le_at s (at + 1) 1) listed k ∙ ap (λ (b : Bool). b || has listed k) (either_way k))
-        ∙ second-first (eqb (le_at s (at + 1) 1) k) (has listed k) (touched (operations_at s (at + 8) (left - 1)) k)
+        ap (λ (b : Bool). b || touched (operations_at s next left) k) (has-insert-is (le_at s (at + 1) 1) listed k ∙ ap (λ (b : Bool). b || has listed k) (either_way k))
+        ∙ second-first (eqb (le_at s (at + 1) 1) k) (has listed k) (touched (operations_at s next left) k)
         ∙ ap (λ (b : Bool). has listed k || b) (sym (next-touched k))
         ∙ h.all k;
   })
@@ -83,9 +105,11 @@ module _ {s : List ℕ} {start m at left : ℕ} {listed : Set} (h : Gathered s s
       either_way : (k : ℕ) → eqb k (le_at s (at + 1) 1) ≡ eqb (le_at s (at + 1) 1) k
       either_way k = same_test _ _ (λ t. eq_test _ k (sym (eqb→eq k _ t))) (λ t. eq_test k _ (sym (eqb→eq _ k t)))
 
-pub gathered-all : {s : List ℕ} {start m at left : ℕ} {listed : Set} → Gathered s start m listed at left → left ≡ 0 → (k : ℕ) → has listed k ≡ touched (operations_at s start m) k
+pub gathered-all : {s : List ℕ} {start m i : ℕ} {listed : Set} → Gathered s start m listed i → m ≤ i → (k : ℕ) → has listed k ≡ touched (operations_at s start m) k
 unfolding operations_at touched
-gathered-all {s} {start} {m} {at} {left} {listed} h none k = sym (or-none (has listed k)) ∙ ap (λ (n : ℕ). has listed k || touched (operations_at s at n) k) (sym none) ∙ h.all k
+gathered-all {s} {start} {m} {i} {listed} h all k =
+    let none : m - i ≡ 0 = omega arith in
+    sym (or-none (has listed k)) ∙ ap (λ (n : ℕ). has listed k || touched (operations_at s (start + 8 * i) n) k) (sym none) ∙ h.all k
   where
     or-none : (b : Bool) → (b || false) ≡ b
     or-none true = refl

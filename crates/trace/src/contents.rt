@@ -18,10 +18,8 @@ pub fn masks_into(s: &[u8], start: usize, masks: &mut [u64], n: usize)
     ensures read { (k : ℕ) → k < n → get_or masks.new k 0 ≡ le_at s.now (start + 8 * k) 8 }
     ensures kept { (k : ℕ) → n ≤ k → get_or masks.new k 0 ≡ get_or masks.old k 0 }
 {
-    let mut i: usize = 0;
-    while i < n {
-        masks[i] = endian::u64_at(s, start + 8 * i);
-        i = i + 1;
+    for (k, mask) in masks[..n].iter_mut().enumerate() {
+        *mask = endian::u64_at(s, start + 8 * k);
     }
 }
 
@@ -31,11 +29,7 @@ fn row_into(views: &[u64], base: usize, masks: &mut [u64], n: usize)
     ensures read { (k : ℕ) → k < n → get_or masks.new k 0 ≡ get_or views.now (base + k) 0 }
     ensures kept { (k : ℕ) → n ≤ k → get_or masks.new k 0 ≡ get_or masks.old k 0 }
 {
-    let mut i: usize = 0;
-    while i < n {
-        masks[i] = views[base + i];
-        i = i + 1;
-    }
+    masks[..n].copy_from_slice(&views[base..base + n]);
 }
 
 // The elements of `masks` at the numbers in `listed` become the masks that stand at a place, in turn; the others stay.
@@ -59,12 +53,8 @@ pub fn touched_keys(s: &[u8], start: usize, m: usize) -> u64
     ensures { (k : ℕ) → has result k ≡ touched (operations_at s.now start m) k }
 {
     let mut listed: u64 = 0;
-    let mut at = start;
-    let mut left = m;
-    while 0 < left {
-        listed = sets::insert(listed, endian::byte_at(s, at + 1));
-        at = at + 8;
-        left = left - 1;
+    for i in 0..m {
+        listed = sets::insert(listed, endian::byte_at(s, start + 8 * i + 1));
     }
     listed
 }

@@ -148,9 +148,8 @@ pub fn sort(s: &[u8], start: usize, keys: usize, m: usize, values: &mut [u64]) -
 {
     let mut ranks: u64 = 0;
     let mut low: usize = 0;
-    let mut at = start;
-    let mut left = m;
-    while 0 < left {
+    for i in 0..m {
+        let at = start + 8 * i;
         low = low_after(s, at, keys, low);
         if low == 0 {
             return None;
@@ -158,8 +157,6 @@ pub fn sort(s: &[u8], start: usize, keys: usize, m: usize, values: &mut [u64]) -
         let rank = low - 1;
         values[rank] = endian::u32_at(s, at + 4) as u64;
         ranks = ranks | (1u64 << rank);
-        at = at + 8;
-        left = left - 1;
     }
     Some(ranks)
 }
@@ -310,16 +307,12 @@ pub fn keys_in(s: &[u8], start: usize, m: usize) -> usize
 {
     let mut count: usize = 0;
     let mut last: usize = 256;
-    let mut at = start;
-    let mut left = m;
-    while 0 < left {
-        let key = endian::byte_at(s, at + 1);
+    for i in 0..m {
+        let key = endian::byte_at(s, start + 8 * i + 1);
         if key != last {
             count = count + 1;
         }
         last = key;
-        at = at + 8;
-        left = left - 1;
     }
     count
 }

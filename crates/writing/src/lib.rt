@@ -30,10 +30,8 @@ pub fn put_masks(buffer: &mut [u8], at: usize, masks: &[u64], base: usize, n: us
     requires { (base + n ≤ length masks.now) × (at + 8 * n ≤ length buffer.old) }
     ensures { (u : View) → RowAt n masks.now base u → buffer.new ≡ put_at buffer.old at (view_bytes n u) }
 {
-    let mut k: usize = 0;
-    while k < n {
-        endian::put_u64(buffer, at + 8 * k, masks[base + k]);
-        k = k + 1;
+    for (k, mask) in masks[base..base + n].iter().enumerate() {
+        endian::put_u64(buffer, at + 8 * k, *mask);
     }
 }
 
@@ -57,11 +55,8 @@ fn copy_operations(buffer: &mut [u8], at: usize, file: &[u8], from: usize, count
     requires { (from + 8 * count ≤ length file.now) × (at + 8 * count ≤ length buffer.old) × ((keys : ℕ) × (keys ≤ max_keys) × (operations_fit file.now from keys 0 count ≡ true)) }
     ensures { buffer.new ≡ put_at buffer.old at (operations_bytes (operations_at file.now from count)) }
 {
-    let mut i: usize = 0;
-    while i < count {
-        endian::put_u64(buffer, at + 8 * i, endian::u64_at(file, from + 8 * i));
-        i = i + 1;
-    }
+    let bytes = 8 * count;
+    buffer[at..at + bytes].copy_from_slice(&file[from..from + bytes]);
 }
 
 // The first 12 bytes of a file: its length, and the record of kind 1.

@@ -16,7 +16,7 @@ use Rattle.imaging.proofs.write_key.Goals as goal
 
 pub loop-i-init : goal.loop-i-init
 unfolding pieces
-loop-i-init c = (omega arith, refl, λ s kept sound few e. put-none _ 4)
+loop-i-init c = λ s kept sound few e. put-none _ 4
 
 pub loop-i-preserved : goal.loop-i-preserved
 loop-i-preserved c =
@@ -29,25 +29,20 @@ loop-i-preserved c =
     let to = 4 + 16 * i in
     let both =
     put_next c.loop-i.part to 8 (to + 8) head readers c.put_u64.ensures (length-le_bytes 8 _) refl (omega arith)
-    c.put_u64-in-loop-i.ensures in (
-      omega arith,
-      omega arith,
-      λ s kept sound few e.
-          put-piece p 4 i (16 * i) (λ j. version_bytes (version s a.k.0 j)) (c.loop-i.invariant.2 s kept sound few e) (length-versions s a.k.0 i) (omega arith)
-          both (version-kept s vs a.k.0 i kept sound few (omega (arith, c.loop-i-test.true))),
-    )
+    c.put_u64-in-loop-i.ensures in
+    λ s kept sound few e.
+    put-piece p 4 i (16 * i) (λ j. version_bytes (version s a.k.0 j)) (c.loop-i.invariant s kept sound few e) (length-versions s a.k.0 i) (omega arith)
+    both (version-kept s vs a.k.0 i kept sound few (omega (arith, c.loop-i-test.true)))
 
-pub returns : goal.returns
+pub returns-clause-part_after : goal.returns-clause-part_after
 unfolding key_bytes
-returns c =
+returns-clause-part_after c =
     let a = c.args in
     let d = a.part.now in
     let p = c.put_u32.new.d in
-    let all : c.loop-i.i ≡ a.n = omega arith in record {
-      value = refl;
-      part_after = λ s kept sound few e.
-          let f : ℕ → List ℕ = λ j. version_bytes (version s a.k.0 j) in
-          put_next d 0 4 4 (le_bytes 4 a.n) (pieces a.n f) c.put_u32.ensures (length-le_bytes 4 a.n) refl (omega arith)
-          (c.loop-i.invariant.2 s kept sound few e ∙ ap (λ j. put_at p 4 (pieces j f)) all)
-          ∙ ap (λ m. put_at d 0 (le_bytes 4 m ++ pieces m f)) (sym e);
-    }
+    let all : c.loop-i.i ≡ a.n = omega arith in
+    λ s kept sound few e.
+    let f : ℕ → List ℕ = λ j. version_bytes (version s a.k.0 j) in
+    put_next d 0 4 4 (le_bytes 4 a.n) (pieces a.n f) c.put_u32.ensures (length-le_bytes 4 a.n) refl (omega arith)
+    (c.loop-i.invariant s kept sound few e ∙ ap (λ j. put_at p 4 (pieces j f)) all)
+    ∙ ap (λ m. put_at d 0 (le_bytes 4 m ++ pieces m f)) (sym e)

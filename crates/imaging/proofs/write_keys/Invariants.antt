@@ -1,7 +1,6 @@
 -- `imaging::write_keys` meets its contract. The loop's invariant: the keys passed stand from `start` on, and the next one's offset is their end. Assumes nothing.
-use Prim.Native.Nat.{◌+◌, ◌-◌, ◌≤◌}
+use Prim.Native.Nat.{◌+◌, ◌≤◌}
 use mathlib.Core.Path.{◌≡◌}
-use lib.ListN.{length}
 use Rattle.endian.specs.Endian.{put_at, pieces}
 use Rattle.store.specs.Limits.{max_commits}
 use Rattle.store.specs.Store.{Store}
@@ -13,9 +12,6 @@ use Rattle.imaging.proofs.write_keys.Given as goal
 
 abbrev pub invariant-loop-k : goal.invariant-loop-k
 invariant-loop-k l =
-    (l.k ≤ l.n) × (l.at ≡ l.start + keys_size l.keys l.k) × (length l.buffer ≡ length l.initial.buffer)
+    (l.at ≡ l.start + keys_size l.keys l.k)
     × ((s : Store) → KeepsVersions s l.versions → KeepsKeys s l.keys → SoundStore s → s.commits ≤ max_commits → s.keys ≡ l.n
     → l.buffer ≡ put_at l.initial.buffer l.start (pieces l.k (key_bytes s)))
-
-abbrev pub decreases-loop-k : goal.decreases-loop-k
-decreases-loop-k l = l.n - l.k

@@ -45,9 +45,6 @@ put_start-requires c = omega (arith, few (goal.at.put_start-requires c).After-to
 pub put_listed-requires : goal.put_listed-requires
 put_listed-requires c = (omega (arith, many (goal.at.put_listed-requires c).After-touched_keys-listed, c.size.ensures.0), (_, below (goal.at.put_listed-requires c).After-touched_keys-listed, c.requires.n_le_max_keys.2))
 
-pub overflow_add-result : goal.overflow_add-result
-overflow_add-result c = omega (arith, many (goal.at.overflow_add-result c).After-touched_keys-listed, c.size.ensures.0)
-
 pub returns : goal.returns
 returns c =
     let a = c.args in

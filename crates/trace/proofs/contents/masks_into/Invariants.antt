@@ -1,11 +1,9 @@
--- `trace::contents::masks_into` meets its contract: the masks passed are filled in, and the others are as they were. Assumes nothing.
-use Prim.Native.Nat.{◌+◌, ◌-◌, ◌*◌, ◌≤◌}
+-- `trace::contents::masks_into` meets its contract: the masks passed are those that stand at the place. Assumes nothing.
+use Prim.Native.Nat.{ℕ, ◌+◌, ◌*◌, ◌<◌}
+use mathlib.Core.Path.{◌≡◌}
+use lib.ListN.{get_or}
 use Rattle.endian.specs.Endian.{le_at}
-use Rattle.trace.proofs.Filled.{Filled}
 use Rattle.trace.proofs.contents.masks_into.Given as goal
 
-abbrev pub invariant-loop-i : goal.invariant-loop-i
-invariant-loop-i l = (l.i ≤ l.n) × Filled (λ k. le_at l.s (l.start + 8 * k) 8) l.initial.masks l.i l.masks
-
-abbrev pub decreases-loop-i : goal.decreases-loop-i
-decreases-loop-i l = l.n - l.i
+abbrev pub invariant-loop-k : goal.invariant-loop-k
+invariant-loop-k l = (j : ℕ) → j < l.k → get_or l.mask-items j 0 ≡ le_at l.s (l.start + 8 * j) 8

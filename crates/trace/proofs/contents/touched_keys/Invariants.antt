@@ -2,8 +2,5 @@
 use Rattle.trace.proofs.Touched.{Gathered}
 use Rattle.trace.proofs.contents.touched_keys.Given as goal
 
-abbrev pub invariant-loop-left : goal.invariant-loop-left
-invariant-loop-left l = Gathered l.s l.start l.m l.listed l.at l.left
-
-abbrev pub decreases-loop-left : goal.decreases-loop-left
-decreases-loop-left l = l.left
+abbrev pub invariant-loop-i : goal.invariant-loop-i
+invariant-loop-i l = Gathered l.s l.start l.m l.listed l.i
