@@ -10,27 +10,21 @@ use placing::Shown;
 use state::Refusal;
 use store::Store;
 
-// The answer for an image: a refusal with code 20 or 17, or what was shown, and how many commits it has.
-#[derive(Clone, Copy)]
-pub enum Arrangement {
-    Refused(Refusal),
-    Shown(Shown),
-}
-
-// The answer for the bytes of an image, whatever they are; what is shown stands at the start of `out`, one byte a commit.
-pub fn judge_image(image: &[u8], out: &mut [u8]) -> Arrangement
+// The answer for the bytes of an image, whatever they are: a refusal with code 20 or 17, or what was shown, and how many commits it has. What is shown stands at
+// the start of `out`, one byte a commit.
+pub fn judge_image(image: &[u8], out: &mut [u8]) -> Result<Shown, Refusal>
     ensures answer { arrangement_of result ≡ shown_answer image.now (length out.old) }
     ensures shown { out.new ≡ shown_after image.now out.old }
     ensures holds { ImageClaim image.now }
 {
     if !reading::shape::shape(image) {
-        return Arrangement::Refused(Refusal::of_record(20, 0));
+        return Err(Refusal::of_record(20, 0));
     }
     if out.len() < Store::COMMITS {
-        return Arrangement::Refused(Refusal::of_record(17, 0));
+        return Err(Refusal::of_record(17, 0));
     }
     let mut rows = [0u64; Store::NUMBERS];
     reading::linking::fill(image, &mut rows);
     let commits = endian::byte_at(image, 5);
-    Arrangement::Shown(placing::order_or_ring(&rows, commits, out))
+    Ok(placing::order_or_ring(&rows, commits, out))
 }

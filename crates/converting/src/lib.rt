@@ -13,7 +13,6 @@ ghost use Rattle.answer.specs.Converted.{convert_answer, convert_after, WrittenS
 ghost use Rattle.converting.specs.Answers.{edition_of, conversion_of};
 
 use state::Refusal;
-use taking::Taking;
 
 // "each 2 as a 6 and each 3 as a 5, or long the other way round"
 #[derive(Clone, Copy)]
@@ -22,31 +21,19 @@ pub enum Edition {
     Short,
 }
 
-// The answer for a file: a refusal with its code, or the length of the file that was written.
-#[derive(Clone, Copy)]
-pub enum Conversion {
-    Refused(Refusal),
-    Written(usize),
-}
-
-// The answer for the bytes of a file, whatever they are; where a file was written, it stands at the start of the buffer.
-pub fn convert(file: &[u8], buffer: &mut [u8], edition: Edition) -> Conversion
+// The answer for the bytes of a file, whatever they are: a refusal with its code, or the length of the file that was written, which stands at the start of the
+// buffer.
+pub fn convert(file: &[u8], buffer: &mut [u8], edition: Edition) -> Result<usize, Refusal>
     ensures answer { conversion_of result ≡ convert_answer (edition_of edition) file.now (length buffer.old) }
     ensures written { buffer.new ≡ convert_after (edition_of edition) file.now buffer.old }
     ensures same { WrittenSame (edition_of edition) file.now (length buffer.old) buffer.new }
 {
-    match taking::take(file) {
-        Taking::Refused(refusal) => Conversion::Refused(refusal),
-        Taking::Taken {
-            header,
-            commits: _,
-            verdicts: _,
-        } => ending::finish(file, buffer, header, edition),
-    }
+    let taken = taking::take(file)?;
+    ending::finish(file, buffer, taken.header, edition)
 }
 
 // "write any taken file short"
-pub fn short(file: &[u8], buffer: &mut [u8]) -> Conversion
+pub fn short(file: &[u8], buffer: &mut [u8]) -> Result<usize, Refusal>
     ensures answer { conversion_of result ≡ convert_answer Editions.short file.now (length buffer.old) }
     ensures written { buffer.new ≡ convert_after Editions.short file.now buffer.old }
     ensures same { WrittenSame Editions.short file.now (length buffer.old) buffer.new }
@@ -55,7 +42,7 @@ pub fn short(file: &[u8], buffer: &mut [u8]) -> Conversion
 }
 
 // "or long the other way round"
-pub fn long(file: &[u8], buffer: &mut [u8]) -> Conversion
+pub fn long(file: &[u8], buffer: &mut [u8]) -> Result<usize, Refusal>
     ensures answer { conversion_of result ≡ convert_answer Editions.long file.now (length buffer.old) }
     ensures written { buffer.new ≡ convert_after Editions.long file.now buffer.old }
     ensures same { WrittenSame Editions.long file.now (length buffer.old) buffer.new }

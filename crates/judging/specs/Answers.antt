@@ -1,14 +1,15 @@
 -- What the answers of the call mean: "Each enum answer has a definition that gives this paper's number and values for each of its
 -- cases" (01, Which shape goes where). Assumes nothing.
-use Rattle.std.specs.Prelude.{ℕ, List, map}
+use Rattle.std.specs.Prelude.{ℕ, List, map, Ok, Err}
+use Rattle.std.specs.Prelude as Library
 use Rattle.std.proofs.Math.Option.{Option}
 use Rattle.search.specs.Choose.{map_some}
 use Rattle.trace.specs.Result.{Result, refused, taken, on_taken}
 use Rattle.answer.specs.Answer.{Report, answer}
 use Rattle.state.specs.Answers.{refusal_of}
+use Rattle.state.specs.declared.Refusal.{Refusal}
 use Rattle.verdicts.specs.Told.{Told, tell, verdicts_of}
-use Rattle.judging.specs.declared.Answer.{Answer}
-use Rattle.judging.specs.declared.Answer.TheVariants as Answer-is
+use Rattle.judging.specs.declared.Judged as Judging
 
 -- "judged: verdicts, records, commits, image length"
 pub record Judged : Type 0 where
@@ -25,6 +26,6 @@ unfoldable pub told_answer : List ℕ → ℕ → Result Judged
 told_answer bytes room = on_taken (answer bytes room) (λ r. taken (judged_of r))
 
 -- the answer of the code
-abbrev pub answer_of : Answer → Result Judged
-answer_of (Answer-is.Refused r) = refused (refusal_of r)
-answer_of (Answer-is.Judged vs records commits length) = taken (record { verdicts = verdicts_of vs; records = records; commits = commits; image_length = length })
+abbrev pub answer_of : Library.Result Judging.Judged Refusal → Result Judged
+answer_of (Err r) = refused (refusal_of r)
+answer_of (Ok j) = taken (record { verdicts = verdicts_of j.verdicts; records = j.records; commits = j.commits; image_length = j.image_length })

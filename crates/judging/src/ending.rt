@@ -7,7 +7,7 @@ ghost use Rattle.state.specs.Room.{VersionsRoom, KeysRoom, CommitsRoom, ViewsRoo
 ghost use Rattle.taking.specs.Taking.{Takes};
 ghost use Rattle.judging.specs.Answers.{answer_of, told_answer};
 
-use crate::Answer;
+use crate::{Answer, Judged};
 use state::Refusal;
 use trace::form::Header;
 use verdicts::told::Verdicts;
@@ -30,13 +30,13 @@ pub fn finish(
     let n = header.keys;
     let whole = imaging::size(keys, n, count);
     if buffer.len() < whole {
-        return Answer::Refused(Refusal::of_record(15, 0));
+        return Err(Refusal::of_record(15, 0));
     }
     imaging::write(buffer, versions, keys, commits, views, n, count, whole);
-    Answer::Judged {
+    Ok(Judged {
         verdicts,
         records: header.records,
         commits: count,
         image_length: whole,
-    }
+    })
 }

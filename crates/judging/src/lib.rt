@@ -12,20 +12,19 @@ ghost use Rattle.judging.specs.Answers.{answer_of, told_answer};
 use commits::Engine;
 use state::Refusal;
 use store::Store;
-use taking::Taking;
 use verdicts::told::Verdicts;
 
-// The answer for a file: a refusal with its code, or what was judged.
+// What was judged of a file that is taken.
 #[derive(Clone, Copy)]
-pub enum Answer {
-    Refused(Refusal),
-    Judged {
-        verdicts: Verdicts,
-        records: usize,
-        commits: usize,
-        image_length: usize,
-    },
+pub struct Judged {
+    pub verdicts: Verdicts,
+    pub records: usize,
+    pub commits: usize,
+    pub image_length: usize,
 }
+
+// The answer for a file: a refusal with its code, or what was judged.
+pub type Answer = Result<Judged, Refusal>;
 
 // The answer for the bytes of a file, whatever they are; where it was judged, the image stands at the start of the buffer.
 pub fn judge(file: &[u8], buffer: &mut [u8]) -> Answer
@@ -40,21 +39,22 @@ pub fn judge(file: &[u8], buffer: &mut [u8]) -> Answer
     let mut keys = s.keys;
     let mut commits = s.commits;
     let mut views = [1u64; state::VIEWS];
-    match taking::take_file(
+    let taken = taking::take_file(
         file,
         &mut versions,
         &mut keys,
         &mut commits,
         &mut views,
         Engine::Fast,
-    ) {
-        Taking::Refused(refusal) => Answer::Refused(refusal),
-        Taking::Taken {
-            header,
-            commits: count,
-            verdicts,
-        } => ending::finish(
-            buffer, &versions, &keys, &commits, &views, header, count, verdicts,
-        ),
-    }
+    )?;
+    ending::finish(
+        buffer,
+        &versions,
+        &keys,
+        &commits,
+        &views,
+        taken.header,
+        taken.commits,
+        taken.verdicts,
+    )
 }

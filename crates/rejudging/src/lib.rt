@@ -9,9 +9,8 @@ ghost use Rattle.judging.specs.Answers.{answer_of, told_answer};
 ghost use Rattle.rejudging.specs.Plain.{plain_answer, EnginesAgree};
 
 use commits::Engine;
-use judging::Answer;
+use judging::{Answer, Judged};
 use store::Store;
-use taking::Taking;
 
 // The answer for the bytes of a file, whatever they are: a refusal with codes 1 to 14, or the verdicts, with the length that the image has which the judge writes.
 pub fn plain(file: &[u8]) -> Answer
@@ -23,29 +22,20 @@ pub fn plain(file: &[u8]) -> Answer
     let mut keys = s.keys;
     let mut commits = s.commits;
     let mut views = [1u64; state::VIEWS];
-    match taking::take_file(
+    let taken = taking::take_file(
         file,
         &mut versions,
         &mut keys,
         &mut commits,
         &mut views,
         Engine::Plain,
-    ) {
-        Taking::Refused(refusal) => Answer::Refused(refusal),
-        Taking::Taken {
-            header,
-            commits: count,
-            verdicts,
-        } => {
-            let n = header.keys;
-            Answer::Judged {
-                verdicts,
-                records: header.records,
-                commits: count,
-                image_length: imaging::size(&keys, n, count),
-            }
-        }
-    }
+    )?;
+    Ok(Judged {
+        verdicts: taken.verdicts,
+        records: taken.header.records,
+        commits: taken.commits,
+        image_length: imaging::size(&keys, taken.header.keys, taken.commits),
+    })
 }
 
 // The answers of both engines for one file.

@@ -3,32 +3,31 @@ ghost use Rattle.std.specs.Prelude.{◌≡◌, length};
 ghost use Rattle.answer.specs.Written.{replay_answer, replay_after};
 ghost use Rattle.replaying.specs.Answers.{replay_of, Ending};
 
-use crate::{Replay, records};
+use crate::records;
 use state::Refusal;
 use trace::form::Header;
-use verdicts::told::{Verdict, Verdicts};
+use verdicts::told::Verdicts;
 
 // The answer for a taken trace with its header, of so many commits, with its verdicts. Code 16: SER did not accept; then code 17: the file buffer is
 // shorter than the file.
-pub fn finish(file: &[u8], buffer: &mut [u8], h: Header, count: usize, verdicts: Verdicts) -> Replay
+pub fn finish(
+    file: &[u8],
+    buffer: &mut [u8],
+    h: Header,
+    count: usize,
+    verdicts: Verdicts,
+) -> Result<usize, Refusal>
     requires { Ending file.now h count verdicts }
     ensures { (replay_of result ≡ replay_answer file.now (length buffer.old)) × (buffer.new ≡ replay_after file.now buffer.old) }
 {
-    let ser = verdicts.ser;
-    if let Verdict::Refused {
-        record,
-        clause: _,
-        key,
-        version,
-    } = ser
-    {
-        return Replay::Refused(Refusal::of_version(16, record, key, version));
+    if let Err(f) = verdicts.ser {
+        return Err(Refusal::of_version(16, f.record, f.key, f.version));
     }
     let whole = records::size(file, h);
     if buffer.len() < whole {
-        return Replay::Refused(Refusal::of_record(17, 0));
+        return Err(Refusal::of_record(17, 0));
     }
     writing::put_head(buffer, whole, h.keys, h.clients, 2 * count);
     records::write(file, buffer, h);
-    Replay::Written(whole)
+    Ok(whole)
 }

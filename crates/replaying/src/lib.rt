@@ -11,28 +11,15 @@ ghost use Rattle.answer.specs.Written.{replay_answer, replay_after, ReplayFits, 
 ghost use Rattle.replaying.specs.Answers.{replay_of};
 
 use state::Refusal;
-use taking::Taking;
 
-// The answer for a file: a refusal with its code, or the length of the file that was written.
-#[derive(Clone, Copy)]
-pub enum Replay {
-    Refused(Refusal),
-    Written(usize),
-}
-
-// The answer for the bytes of a file, whatever they are; where a file was written, it stands at the start of the buffer.
-pub fn write(file: &[u8], buffer: &mut [u8]) -> Replay
+// The answer for the bytes of a file, whatever they are: a refusal with its code, or the length of the file that was written, which stands at the start of the
+// buffer.
+pub fn write(file: &[u8], buffer: &mut [u8]) -> Result<usize, Refusal>
     ensures answer { replay_of result ≡ replay_answer file.now (length buffer.old) }
     ensures written { buffer.new ≡ replay_after file.now buffer.old }
     ensures back { ReadsBack file.now (length buffer.old) buffer.new }
     ensures longest { ReplayFits file.now }
 {
-    match taking::take(file) {
-        Taking::Refused(refusal) => Replay::Refused(refusal),
-        Taking::Taken {
-            header,
-            commits: count,
-            verdicts,
-        } => ending::finish(file, buffer, header, count, verdicts),
-    }
+    let taken = taking::take(file)?;
+    ending::finish(file, buffer, taken.header, taken.commits, taken.verdicts)
 }

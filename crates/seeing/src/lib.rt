@@ -19,24 +19,10 @@ pub fn report(file: &[u8], image: &mut [u8], table: &mut [u64]) -> Answer
     ensures rows { table.new ≡ table_after file.now (length image.old) table.old }
     ensures holds { Visibility file.now }
 {
-    match judging::judge(file, image) {
-        Answer::Refused(refusal) => Answer::Refused(refusal),
-        Answer::Judged {
-            verdicts,
-            records,
-            commits,
-            image_length,
-        } => {
-            if table.len() < commits {
-                return Answer::Refused(Refusal::of_record(21, 0));
-            }
-            gathering::fill(&image[..image_length], table);
-            Answer::Judged {
-                verdicts,
-                records,
-                commits,
-                image_length,
-            }
-        }
+    let judged = judging::judge(file, image)?;
+    if table.len() < judged.commits {
+        return Err(Refusal::of_record(21, 0));
     }
+    gathering::fill(&image[..judged.image_length], table);
+    Ok(judged)
 }

@@ -1,8 +1,9 @@
 -- What the taking of a trace file is given, and what its answer says. Assumes nothing.
-use Rattle.std.specs.Prelude.{ℕ, ◌≤◌, ◌≡◌, List, length, replicate}
+use Rattle.std.specs.Prelude.{ℕ, ◌≤◌, ◌≡◌, List, length, replicate, Result, Ok, Err}
 use Rattle.store.specs.Limits.{max_commits}
 use Rattle.store.specs.Sound.{SoundStore}
 use Rattle.store.specs.Image.{ClientsFit}
+use Rattle.trace.specs.Result as Trace
 use Rattle.trace.specs.Result.{refused, taken}
 use Rattle.trace.specs.Format.{Trace}
 use Rattle.trace.specs.Meaning.{WholeFile}
@@ -12,10 +13,10 @@ use Rattle.state.specs.Places.{versions_length, keys_length, commits_length, vie
 use Rattle.state.specs.Room.{ViewsRoom}
 use Rattle.state.specs.Keeps.{KeepsVersions, KeepsKeys, KeepsCommits, KeepsStored}
 use Rattle.state.specs.Answers.{refusal_of}
+use Rattle.state.specs.declared.Refusal.{Refusal}
 use Rattle.verdicts.specs.Told.{tell_all, verdicts_of}
 use Rattle.verdicts.specs.declared.told.Verdicts.{Verdicts}
-use Rattle.taking.specs.declared.Taking.{Taking}
-use Rattle.taking.specs.declared.Taking.TheVariants.{Refused, Taken}
+use Rattle.taking.specs.declared.Taken.{Taken}
 
 -- the arrays of the opening store
 pub record Opened (versions keys commits views : List ℕ) : Type 0 where
@@ -44,6 +45,11 @@ pub record Takes (bytes : List ℕ) (t : Trace) (versions keys commits views : L
   pub told : verdicts_of vs ≡ tell_all (λ l. verdict l t)
 
 -- what an answer says of the bytes of a file
-unfoldable pub TakingSays : List ℕ → List ℕ → List ℕ → List ℕ → List ℕ → Taking → Type 0
-TakingSays bytes versions keys commits views (Refused r) = accept bytes ≡ refused (refusal_of r)
-TakingSays bytes versions keys commits views (Taken h count vs) = (t : Trace) × Takes bytes t versions keys commits views h count vs
+unfoldable pub TakingSays : List ℕ → List ℕ → List ℕ → List ℕ → List ℕ → Result Taken Refusal → Type 0
+TakingSays bytes versions keys commits views (Err r) = accept bytes ≡ refused (refusal_of r)
+TakingSays bytes versions keys commits views (Ok a) = (t : Trace) × Takes bytes t versions keys commits views a.header a.commits a.verdicts
+
+-- the answer of a call that writes a file: its refusal, or the length of the file
+abbrev pub written_of : Result ℕ Refusal → Trace.Result ℕ
+written_of (Err r) = refused (refusal_of r)
+written_of (Ok n) = taken n

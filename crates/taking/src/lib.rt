@@ -14,15 +14,12 @@ use store::Store;
 use trace::form::{Form, Header};
 use verdicts::told::{Verdicts, verdicts_from};
 
-// What a file comes to: a refusal; or a trace with its header and so many commits, and the verdicts of the levels.
+// What a file that is not refused comes to: a trace with its header and so many commits, and the verdicts of the levels.
 #[derive(Clone, Copy)]
-pub enum Taking {
-    Refused(Refusal),
-    Taken {
-        header: Header,
-        commits: usize,
-        verdicts: Verdicts,
-    },
+pub struct Taken {
+    pub header: Header,
+    pub commits: usize,
+    pub verdicts: Verdicts,
 }
 
 // A file with its header: its records are run from the opening on.
@@ -34,7 +31,7 @@ fn take_records(
     commits: &mut [u64],
     views: &mut [u64],
     engine: Engine,
-) -> Taking
+) -> Result<Taken, Refusal>
     requires headed { Headed file.now h }
     requires opened { Opened versions.old keys.old commits.old views.old }
     ensures { TakingSays file.now versions.new keys.new commits.new views.new result }
@@ -64,13 +61,13 @@ fn take_records(
         engine,
     );
     match ran {
-        Ran::Misshapen { code, record } => Taking::Refused(Refusal::of_record(code, record)),
-        Ran::Refused(refusal) => Taking::Refused(refusal),
-        Ran::Done { commits: count } => Taking::Taken {
+        Ran::Misshapen { code, record } => Err(Refusal::of_record(code, record)),
+        Ran::Refused(refusal) => Err(refusal),
+        Ran::Done { commits: count } => Ok(Taken {
             header: h,
             commits: count,
             verdicts: verdicts_from(&noted),
-        },
+        }),
     }
 }
 
@@ -82,18 +79,18 @@ pub fn take_file(
     commits: &mut [u64],
     views: &mut [u64],
     engine: Engine,
-) -> Taking
+) -> Result<Taken, Refusal>
     requires { Opened versions.old keys.old commits.old views.old }
     ensures { TakingSays file.now versions.new keys.new commits.new views.new result }
 {
     match trace::form::header_of(file) {
-        Form::Misshapen { code, record } => Taking::Refused(Refusal::of_record(code, record)),
+        Form::Misshapen { code, record } => Err(Refusal::of_record(code, record)),
         Form::Whole(h) => take_records(file, h, versions, keys, commits, views, engine),
     }
 }
 
 // The same for a call that has no use for the last store: the arrays are made and dropped here.
-pub fn take(file: &[u8]) -> Taking
+pub fn take(file: &[u8]) -> Result<Taken, Refusal>
     ensures { (versions : List ℕ) × (keys : List ℕ) × (commits : List ℕ) × (views : List ℕ) × TakingSays file.now versions keys commits views result }
 {
     let s = Store::opening();

@@ -1,12 +1,11 @@
 -- What the verdicts that are answered mean: "Each enum answer has a definition that gives this paper's number and values for each of its
 -- cases" (01, Which shape goes where). Assumes nothing.
-use Rattle.std.specs.Prelude.{ℕ, List, [], ◌∷◌, map}
+use Rattle.std.specs.Prelude.{ℕ, List, [], ◌∷◌, map, Result, Ok, Err}
 use Rattle.std.proofs.Math.Option.{Option, some, none}
 use Rattle.search.specs.Choose.{map_some}
 use Rattle.levels.specs.Clause.{clause_number}
 use Rattle.levels.specs.Level.{Level, levels, Failure}
-use Rattle.verdicts.specs.declared.told.Verdict.{Verdict}
-use Rattle.verdicts.specs.declared.told.Verdict.TheVariants.{Accepted, Refused}
+use Rattle.verdicts.specs.declared.told.FirstFailure.{FirstFailure}
 use Rattle.verdicts.specs.declared.told.Verdicts.{Verdicts}
 
 -- a verdict as it is answered: none where the level accepts; else "record, clause, key and version" of its first failure
@@ -25,9 +24,9 @@ tell_all fs = map (λ l. map_some tell (fs l)) levels
 
 -- ---- the answers of the code
 
-abbrev pub verdict_of : Verdict → Option Told
-verdict_of Accepted = none
-verdict_of (Refused n x k v) = some (record { at_record = n; clause = x; key = k.0; version = v.0 })
+abbrev pub verdict_of : Result (Unit {0}) FirstFailure → Option Told
+verdict_of (Ok _) = none
+verdict_of (Err f) = some (record { at_record = f.record; clause = f.clause; key = f.key.0; version = f.version.0 })
 
 abbrev pub verdicts_of : Verdicts → List (Option Told)
 verdicts_of v =

@@ -9,17 +9,17 @@ ghost use Rattle.verdicts.specs.Told.{tell, tell_all, verdict_of, verdicts_of};
 use crate::{KEYS, RECORDS, VERSIONS};
 use state::{Key, VersionNumber};
 
-// What a level says of a trace: it accepts, or it is refused at the first commit that fails it.
+// The first commit that fails a level, by its record, with the clause, the key and the version.
 #[derive(Clone, Copy)]
-pub enum Verdict {
-    Accepted,
-    Refused {
-        record: usize,
-        clause: usize,
-        key: Key,
-        version: VersionNumber,
-    },
+pub struct FirstFailure {
+    pub record: usize,
+    pub clause: usize,
+    pub key: Key,
+    pub version: VersionNumber,
 }
+
+// What a level says of a trace: it accepts, or it is refused at the first commit that fails it.
+pub type Verdict = Result<(), FirstFailure>;
 
 // The verdicts of the ten levels, in report order.
 #[derive(Clone, Copy)]
@@ -43,14 +43,14 @@ fn verdict_at(verdicts: &[u64], i: usize) -> Verdict
 {
     let clause = verdicts[i] as usize;
     if clause == 0 {
-        return Verdict::Accepted;
+        return Ok(());
     }
-    Verdict::Refused {
+    Err(FirstFailure {
         record: verdicts[RECORDS + i] as usize,
         clause,
         key: Key(verdicts[KEYS + i] as usize),
         version: VersionNumber(verdicts[VERSIONS + i] as usize),
-    }
+    })
 }
 
 // The verdicts of all levels.

@@ -1,6 +1,7 @@
 -- `converting::convert` meets its contract: nothing is asked of the bytes of a file. Assumes nothing.
 use mathlib.Core.Path.{sym, subst}
 use lib.ListN.{length}
+use Rattle.std.proofs.lemmas.Result.{err_from_is_err_and}
 use Rattle.endian.specs.Endian.{Bytes}
 use Rattle.trace.specs.Edition.{Edition}
 use Rattle.answer.specs.Converted.{convert_answer, WrittenSame}
@@ -21,17 +22,19 @@ bytes c i = (c.type_inv.file i).fits
 pub finish-requires : goal.finish-requires
 finish-requires c =
     let taken = c.take.ensures in
-    ends_with (says-taken _ _ _ _ _ taken.4 c.in-Taken.is).1
+    ends_with (says-taken _ _ _ _ _ taken.4 c.in_ok-taken.was).1
 
-pub returns-in-Refused : goal.returns-in-Refused
+pub returns-in_err-taken : goal.returns-in_err-taken
 unfolding convert_answer
-returns-in-Refused c =
+returns-in_err-taken c =
     let file = c.args.file.now in
     let buffer = c.args.buffer.now in
-    let a = refused-file (edition (goal.at.returns-in-Refused c).After-take) file buffer _ (says-refused _ _ _ _ _ c.take.ensures.4 c.in-Refused.is) in record { answer = a.said; written = a.left; same = subst (WrittenSame (edition (goal.at.returns-in-Refused c).After-take) file (length buffer)) (sym a.left) (written_same (edition (goal.at.returns-in-Refused c).After-take) file (bytes (goal.at.returns-in-Refused c).After-take) buffer) }
+    let a = refused-file (edition (goal.at.returns-in_err-taken c).After-take) file buffer _ (says-refused _ _ _ _ _ c.take.ensures.4 c.in_err-taken.was) in
+    let p = err_from_is_err_and c.from_residual.result c.from_residual.ensures.1 in
+    record { answer = rw (p.1, p.2) a.said; written = a.left; same = subst (WrittenSame (edition (goal.at.returns-in_err-taken c).After-take) file (length buffer)) (sym a.left) (written_same (edition (goal.at.returns-in_err-taken c).After-take) file (bytes (goal.at.returns-in_err-taken c).After-take) buffer) }
 
-pub returns-in-Taken : goal.returns-in-Taken
-returns-in-Taken c =
+pub returns : goal.returns
+returns c =
     let file = c.args.file.now in
     let buffer = c.args.buffer.now in
-    let a = c.finish.ensures in record { answer = a.0; written = a.1; same = subst (WrittenSame (edition (goal.at.returns-in-Taken c).After-take) file (length buffer)) (sym a.1) (written_same (edition (goal.at.returns-in-Taken c).After-take) file (bytes (goal.at.returns-in-Taken c).After-take) buffer) }
+    let a = c.finish.ensures in record { answer = a.0; written = a.1; same = subst (WrittenSame (edition (goal.at.returns c).After-take) file (length buffer)) (sym a.1) (written_same (edition (goal.at.returns c).After-take) file (bytes (goal.at.returns c).After-take) buffer) }

@@ -32,10 +32,10 @@ size_is c = c.size-whole.ensures.0 _ (read c)
 
 -- ---- the goals
 
-pub returns-in-Refused : goal.returns-in-Refused
+pub returns-in-Err : goal.returns-in-Err
 unfolding replay_answer
-returns-in-Refused c =
-    let a = not-serial-replay c.args.file.now c.args.buffer.now c.requires.trace c.requires.accepted _ (sym (ap verdict_of c.in-Refused.is) ∙ c.requires.told) in
+returns-in-Err c =
+    let a = not-serial-replay c.args.file.now c.args.buffer.now c.requires.trace c.requires.accepted _ (sym (ap verdict_of c.in-Err.is) ∙ c.requires.told) in
     (ap refused c.of_version.ensures ∙ a.said, a.left)
 
 pub size-whole-requires : goal.size-whole-requires
