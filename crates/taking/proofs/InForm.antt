@@ -12,10 +12,9 @@ use Rattle.store.specs.Refusal.{refuse, refuses_event}
 use Rattle.store.proofs.Run.{final-commits}
 use Rattle.trace.specs.Result.{refused}
 use Rattle.trace.specs.Format.{Trace, trace_of}
-use Rattle.trace.specs.Meaning.{header_of, AllRecordsSay, WholeFile, Headed, HeaderSays}
+use Rattle.trace.specs.Meaning.{Form, header_of, AllRecordsSay, WholeFile, Headed, HeaderSays}
 use Rattle.trace.specs.declared.form.Header.{Header}
-use Rattle.trace.specs.declared.form.Form.{Form}
-use Rattle.trace.specs.declared.form.Form.TheVariants.{Whole, Misshapen}
+use Rattle.trace.specs.declared.form.Misshapen.{Misshapen}
 use Rattle.trace.proofs.Decoded.{IfTaken, EntriesRead, entries-read}
 use Rattle.trace.proofs.Entries.{length-events_of}
 use Rattle.trace.proofs.InForm.{records-misshapen, records-whole}
@@ -30,10 +29,9 @@ use Rattle.verdicts.specs.Verdicts.{verdicts_length, KeepsVerdicts}
 use Rattle.verdicts.specs.Told.{tell_all, verdicts_of}
 use Rattle.verdicts.specs.declared.told.Verdicts.{Verdicts}
 use Rattle.taking.proofs.Fresh.{no-failure, no_value}
-use Rattle.run.specs.Ran.{form_of, Starts, Ended, RanSays}
-use Rattle.run.specs.declared.Ran.{Ran}
-use Rattle.run.specs.declared.Ran.TheVariants as Runs
-use Rattle.run.specs.declared.Ran.TheVariants.{Done, Refused}
+use Rattle.std.specs.Prelude.{Ok, Err}
+use Rattle.run.specs.Ran.{Ran, form_of, Starts, Ended, RanSays}
+use Rattle.run.specs.declared.Stop.TheVariants as Stops
 use Rattle.taking.specs.Taking.{Opened, Takes}
 use Rattle.taking.proofs.Accepted.{misshapen, accepted}
 
@@ -105,29 +103,29 @@ module _ {s : List ℕ} (b : Bytes s) {h : Header} (w : WholeFile s h) {count : 
 
 -- ---- what the calls answer, case by case
 
-pub headed-of : {s : List ℕ} {f : Form} {h : Header} → HeaderSays s f → f ≡ Whole h → Headed s h
+pub headed-of : {s : List ℕ} {f : Form} {h : Header} → HeaderSays s f → f ≡ Ok h → Headed s h
 unfolding HeaderSays
 headed-of {s} says e = subst (HeaderSays s) e says
 
 -- a file that has no header is refused
-pub misshapen-of : (s : List ℕ) {f : Form} {code n : ℕ} → HeaderSays s f → f ≡ Misshapen code n → accept s ≡ refused (refuse code n)
+pub misshapen-of : (s : List ℕ) {f : Form} {m : Misshapen} → HeaderSays s f → f ≡ Err m → accept s ≡ refused (refuse m.code m.record)
 unfolding HeaderSays
 misshapen-of s says e = misshapen s _ (subst (HeaderSays s) e says)
 
 -- what the run of its records came to: they are not in form, or they are
 module _ {s : List ℕ} {h : Header} (t : Headed s h) (r : Ran) (says : AllRecordsSay s h (form_of h r)) where
-  pub ran-misshapen : {code n : ℕ} → r ≡ Runs.Misshapen code n → accept s ≡ refused (refuse code n)
+  pub ran-misshapen : {m : Misshapen} → r ≡ Err (Stops.Misshapen m) → accept s ≡ refused (refuse m.code m.record)
   ran-misshapen e = misshapen s _ (records-misshapen t (subst (λ (x : Ran). AllRecordsSay s h (form_of h x)) e says))
 
-  pub whole-refused : {why : Refusal} → r ≡ Refused why → WholeFile s h
+  pub whole-refused : {why : Refusal} → r ≡ Err (Stops.Refused why) → WholeFile s h
   whole-refused e = records-whole t (subst (λ (x : Ran). AllRecordsSay s h (form_of h x)) e says)
 
-  pub whole-done : {count : ℕ} → r ≡ Done count → WholeFile s h
+  pub whole-done : {count : ℕ} → r ≡ Ok count → WholeFile s h
   whole-done e = records-whole t (subst (λ (x : Ran). AllRecordsSay s h (form_of h x)) e says)
 
 module _ (n : ℕ) (es : List Event) (versions keys views seen sessions commits links verdicts : List ℕ) (r : Ran) (says : RanSays n es versions keys views seen sessions commits links verdicts r) where
-  pub ran-done : {count : ℕ} → r ≡ Done count → Ended n es count versions keys views seen sessions commits links verdicts
+  pub ran-done : {count : ℕ} → r ≡ Ok count → Ended n es count versions keys views seen sessions commits links verdicts
   ran-done e = subst (RanSays n es versions keys views seen sessions commits links verdicts) e says
 
-  pub ran-refused : {why : Refusal} → r ≡ Refused why → first_along refuses_event 1 (opening n) es ≡ some (refusal_of why)
+  pub ran-refused : {why : Refusal} → r ≡ Err (Stops.Refused why) → first_along refuses_event 1 (opening n) es ≡ some (refusal_of why)
   ran-refused e = subst (RanSays n es versions keys views seen sessions commits links verdicts) e says

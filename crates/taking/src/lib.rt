@@ -8,10 +8,10 @@ ghost use Rattle.trace.specs.Meaning.{Headed};
 ghost use Rattle.taking.specs.Taking.{Opened, TakingSays};
 
 use commits::Engine;
-use run::Ran;
+use run::Stop;
 use state::Refusal;
 use store::Store;
-use trace::form::{Form, Header};
+use trace::form::{Header, header_of};
 use verdicts::told::{Verdicts, verdicts_from};
 
 // What a file that is not refused comes to: a trace with its header and so many commits, and the verdicts of the levels.
@@ -61,13 +61,13 @@ fn take_records(
         engine,
     );
     match ran {
-        Ran::Misshapen { code, record } => Err(Refusal::of_record(code, record)),
-        Ran::Refused(refusal) => Err(refusal),
-        Ran::Done { commits: count } => Ok(Taken {
+        Ok(commits) => Ok(Taken {
             header: h,
-            commits: count,
+            commits,
             verdicts: verdicts_from(&noted),
         }),
+        Err(Stop::Misshapen(m)) => Err(Refusal::of_record(m.code, m.record)),
+        Err(Stop::Refused(refusal)) => Err(refusal),
     }
 }
 
@@ -83,9 +83,9 @@ pub fn take_file(
     requires { Opened versions.old keys.old commits.old views.old }
     ensures { TakingSays file.now versions.new keys.new commits.new views.new result }
 {
-    match trace::form::header_of(file) {
-        Form::Misshapen { code, record } => Err(Refusal::of_record(code, record)),
-        Form::Whole(h) => take_records(file, h, versions, keys, commits, views, engine),
+    match header_of(file) {
+        Ok(h) => take_records(file, h, versions, keys, commits, views, engine),
+        Err(m) => Err(Refusal::of_record(m.code, m.record)),
     }
 }
 

@@ -6,9 +6,9 @@ use Rattle.taking.proofs.InForm.{headed-of, misshapen-of}
 use Rattle.taking.proofs.take_file.Goals as goal
 
 pub take_records-requires : goal.take_records-requires
-take_records-requires c = record { headed = headed-of c.header_of.ensures c.in-Whole.is; opened = c.requires }
+take_records-requires c = record { headed = headed-of c.header_of.ensures c.in-Ok.is; opened = c.requires }
 
-pub returns-in-Misshapen : goal.returns-in-Misshapen
+pub returns-in-Err : goal.returns-in-Err
 unfolding TakingSays
-returns-in-Misshapen c =
-    misshapen-of _ c.header_of.ensures c.in-Misshapen.is ∙ ap refused (sym c.of_record.ensures)
+returns-in-Err c =
+    misshapen-of _ c.header_of.ensures c.in-Err.is ∙ ap refused (sym c.of_record.ensures)

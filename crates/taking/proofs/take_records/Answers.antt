@@ -1,6 +1,7 @@
 -- `taking::take_records` meets its contract: the arrays of the opening store are those on which the records start, and what the run comes to is
 -- what the definitions accept. Assumes nothing.
-use mathlib.Core.Path.{refl, sym, ap, ◌∙◌}
+use Rattle.std.specs.Prelude.{Err}
+use mathlib.Core.Path.{◌≡◌, refl, sym, ap, ◌∙◌}
 use native.Mathlib.Omega.{arith}
 use lib.ListN.{replicate}
 use Rattle.endian.specs.Endian.{Bytes}
@@ -10,6 +11,8 @@ use Rattle.trace.specs.Meaning.{WholeFile}
 use Rattle.state.specs.Places.{values_length}
 use Rattle.state.specs.Keeps.{Keeps}
 use Rattle.verdicts.specs.Verdicts.{verdicts_length}
+use borrow.Author.Rules.{rules}
+use Rattle.run.specs.declared.Stop.TheVariants.{Misshapen, Refused}
 use Rattle.run.specs.Ran.{Starts}
 use Rattle.taking.specs.Taking.{TakingSays}
 use Rattle.taking.proofs.Accepted.{refused-meaning}
@@ -50,21 +53,22 @@ run_all-ran-requires c =
       };
     }
 
-pub returns-in-Misshapen : goal.returns-in-Misshapen
+pub returns-in-Err-Misshapen : goal.returns-in-Err-Misshapen
 unfolding TakingSays
-returns-in-Misshapen c =
-    ran-misshapen c.requires.headed _ c.run_all-ran.ensures.form c.in-Misshapen.is ∙ ap refused (sym c.of_record.ensures)
+returns-in-Err-Misshapen c =
+    let is : c.run_all-ran.result ≡ Err (Misshapen c.in-Err-Misshapen.m) = search rules in
+    ran-misshapen c.requires.headed _ c.run_all-ran.ensures.form is ∙ ap refused (sym c.of_record.ensures)
 
-pub returns-in-Refused : goal.returns-in-Refused
+pub returns-in-Err-Refused : goal.returns-in-Err-Refused
 unfolding TakingSays
-returns-in-Refused c =
-    let is = c.in-Refused.is in
+returns-in-Err-Refused c =
+    let is : c.run_all-ran.result ≡ Err (Refused c.in-Err-Refused.refusal) = search rules in
     let w = whole-refused c.requires.headed _ c.run_all-ran.ensures.form is in
-    refused-meaning _ (trace_in w) w.decoded _ (ran-refused _ _ _ _ _ _ _ _ _ _ _ (c.run_all-ran.ensures.meaning w.entries (started (goal.at.returns-in-Refused c).After-opening-s w)) is)
+    refused-meaning _ (trace_in w) w.decoded _ (ran-refused _ _ _ _ _ _ _ _ _ _ _ (c.run_all-ran.ensures.meaning w.entries (started (goal.at.returns-in-Err-Refused c).After-opening-s w)) is)
 
-pub returns-in-Done : goal.returns-in-Done
+pub returns-in-Ok : goal.returns-in-Ok
 unfolding TakingSays
-returns-in-Done c =
-    let is = c.in-Done.is in
+returns-in-Ok c =
+    let is = c.in-Ok.is in
     let w = whole-done c.requires.headed _ c.run_all-ran.ensures.form is in
-    (trace_in w, takes (bytes (goal.at.returns-in-Done c).After-opening-s) w (ran-done _ _ _ _ _ _ _ _ _ _ _ (c.run_all-ran.ensures.meaning w.entries (started (goal.at.returns-in-Done c).After-opening-s w)) is) c.verdicts_from.ensures)
+    (trace_in w, takes (bytes (goal.at.returns-in-Ok c).After-opening-s) w (ran-done _ _ _ _ _ _ _ _ _ _ _ (c.run_all-ran.ensures.meaning w.entries (started (goal.at.returns-in-Ok c).After-opening-s w)) is) c.verdicts_from.ensures)
