@@ -46,13 +46,11 @@ pub fn size(file: &[u8], h: Header) -> usize
 {
     let mut sum = Store::HEADER;
     let mut at = Store::HEADER;
-    let mut left = h.records;
-    while 0 < left {
+    for _ in 0..h.records {
         let known = trace::records::known_at(file, at, h.keys);
         let record = known.record;
         sum = sum + length_for(record, h.keys);
         at = known.next;
-        left = left - 1;
     }
     sum
 }
@@ -130,12 +128,10 @@ pub fn write(file: &[u8], buffer: &mut [u8], h: Header)
     let mut values = [0u64; state::VALUES];
     let mut to = Store::HEADER;
     let mut at = Store::HEADER;
-    let mut left = h.records;
-    while 0 < left {
+    for _ in 0..h.records {
         let known = trace::records::known_at(file, at, h.keys);
         let record = known.record;
         to = write_one(file, record, buffer, to, &mut full, &mut values, h.keys);
         at = known.next;
-        left = left - 1;
     }
 }

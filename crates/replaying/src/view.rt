@@ -17,9 +17,7 @@ pub fn grow(full: &mut [u64], ranks: u64, n: usize)
     requires { (n ≤ max_keys) × (n ≤ length full.old) × ((k : ℕ) → k < n → get_or full.old k 0 < 2 ^ 63) }
     ensures { (k : ℕ) → k < n → get_or full.new k 0 ≡ grown_mask ranks k (get_or full.old k 0) }
 {
-    let mut k: usize = 0;
-    while k < n {
-        full[k] = with_next(full[k], (ranks >> (2 * k + 1)) % 2);
-        k = k + 1;
+    for (k, mask) in full[..n].iter_mut().enumerate() {
+        *mask = with_next(*mask, (ranks >> (2 * k + 1)) % 2);
     }
 }

@@ -1,12 +1,12 @@
 -- `replaying::view::grow` meets its contract. The loop's invariant: the keys passed have their mask after, the others still that before. Assumes nothing.
-use Prim.Native.Nat.{◌-◌, ◌≤◌}
+use Prim.Native.Nat.{ℕ, ◌≤◌, ◌<◌}
 use mathlib.Core.Path.{◌≡◌}
-use lib.ListN.{length}
-use Rattle.replaying.proofs.Grown.{Grown}
+use lib.ListN.{get_or}
+use Rattle.replaying.specs.Full.{grown_mask}
 use Rattle.replaying.proofs.view.grow.Given as goal
 
 abbrev pub invariant-loop-k : goal.invariant-loop-k
-invariant-loop-k l = (l.k ≤ l.n) × (length l.full ≡ length l.initial.full) × Grown l.initial.full l.ranks l.k l.full
-
-abbrev pub decreases-loop-k : goal.decreases-loop-k
-decreases-loop-k l = l.n - l.k
+invariant-loop-k l = record {
+  passed : (j : ℕ) → j < l.k → get_or l.mask-items j 0 ≡ grown_mask l.ranks j (get_or l.fn.full j 0);
+  others : (j : ℕ) → l.k ≤ j → j < l.n → get_or l.mask-items j 0 ≡ get_or l.fn.full j 0;
+}
