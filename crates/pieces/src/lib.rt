@@ -127,13 +127,13 @@ fn answer(was: Session, kept: &[u8], image: &mut [u8]) -> Answer
 {
     let total = was.total;
     if was.closed != 0 {
-        return Answer::Refused(Refusal::of_record(18, 0));
+        return Err(Refusal::of_record(18, 0));
     }
     if Store::BYTES < total {
-        return Answer::Refused(Refusal::of_record(1, 0));
+        return Err(Refusal::of_record(1, 0));
     }
     if kept.len() < total {
-        return Answer::Refused(Refusal::of_record(17, 0));
+        return Err(Refusal::of_record(17, 0));
     }
     judging::judge(&kept[..total], image)
 }

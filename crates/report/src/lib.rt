@@ -88,13 +88,8 @@ fn put_verdict(out: &mut [u8], at: usize, name: &[u8], v: Verdict) -> usize
 {
     let named = text::put_bytes(out, at, name);
     match v {
-        Verdict::Accepted => text::put_bytes(out, named, b" accepted\n"),
-        Verdict::Refused {
-            record,
-            clause,
-            key,
-            version,
-        } => put_failure(out, named, record, clause, key, version),
+        Ok(()) => text::put_bytes(out, named, b" accepted\n"),
+        Err(f) => put_failure(out, named, f.record, f.clause, f.key, f.version),
     }
 }
 
@@ -176,12 +171,7 @@ pub fn write(a: Answer, out: &mut [u8]) -> usize
         return 0;
     }
     match a {
-        Answer::Refused(refusal) => put_refusal(out, 0, refusal),
-        Answer::Judged {
-            verdicts,
-            records,
-            commits,
-            image_length,
-        } => put_judged(out, records, commits, verdicts),
+        Ok(j) => put_judged(out, j.records, j.commits, j.verdicts),
+        Err(refusal) => put_refusal(out, 0, refusal),
     }
 }

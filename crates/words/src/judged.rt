@@ -23,19 +23,14 @@ fn put_verdict(out: &mut [u64], at: usize, v: Verdict)
     ensures { out.new ≡ put_at out.old at (verdict_words (verdict_of v)) }
 {
     match v {
-        Verdict::Accepted => put_four(out, at, 0, 0, 0, 0),
-        Verdict::Refused {
-            record,
-            clause,
-            key,
-            version,
-        } => put_four(
+        Ok(()) => put_four(out, at, 0, 0, 0, 0),
+        Err(f) => put_four(
             out,
             at,
-            clause as u64,
-            record as u64,
-            key.0 as u64,
-            version.0 as u64,
+            f.clause as u64,
+            f.record as u64,
+            f.key.0 as u64,
+            f.version.0 as u64,
         ),
     }
 }

@@ -8,16 +8,12 @@ ghost use Rattle.std.specs.Prelude.{◌≡◌, [], ◌∷◌, ◌≤◌, length}
 ghost use Rattle.endian.specs.Endian.{put_at};
 ghost use Rattle.state.specs.Answers.{refusal_of};
 ghost use Rattle.arranging.specs.Answers.{arrangement_of};
-ghost use Rattle.converting.specs.Answers.{conversion_of};
 ghost use Rattle.judging.specs.Answers.{answer_of};
 ghost use Rattle.replaying.specs.Answers.{replay_of};
 ghost use Rattle.words.specs.Layout.{refusal_length, refusal_words, replay_words, shown_code, shown_words, answer_length, answer_words, code_of};
 
-use arranging::Arrangement;
-use converting::Conversion;
 use judging::Answer;
 use placing::Shown;
-use replaying::Replay;
 use state::Refusal;
 
 // The code of a call that has no room for the words of its answer.
@@ -48,33 +44,7 @@ fn put_refusal(out: &mut [u64], r: Refusal) -> u64
     r.code as u64
 }
 
-// The answer of `replaying::write`.
-pub fn put_replay(out: &mut [u64], a: Replay) -> u64
-    requires { refusal_length ≤ length out.old }
-    ensures { (result ≡ code_of (replay_of a)) × (out.new ≡ put_at out.old 0 (replay_words (replay_of a))) }
-{
-    match a {
-        Replay::Refused(refusal) => put_refusal(out, refusal),
-        Replay::Written(size) => {
-            out[0] = 0;
-            out[1] = size as u64;
-            0
-        }
-    }
-}
-
-// The answer of `converting::short` and `converting::long`: the words are those of a replay.
-pub fn put_conversion(out: &mut [u64], a: Conversion) -> u64
-    requires { refusal_length ≤ length out.old }
-    ensures { (result ≡ code_of (conversion_of a)) × (out.new ≡ put_at out.old 0 (replay_words (conversion_of a))) }
-{
-    match a {
-        Conversion::Refused(refusal) => put_replay(out, Replay::Refused(refusal)),
-        Conversion::Written(size) => put_replay(out, Replay::Written(size)),
-    }
-}
-
-// A code, and how many commits are shown with it.
+// A code, and a number with it: how many bytes were written, or how many commits are shown.
 fn put_count(out: &mut [u64], code: u64, n: usize) -> u64
     requires { refusal_length ≤ length out.old }
     ensures { (result ≡ code) × (out.new ≡ put_at out.old 0 (code ∷ n ∷ [])) }
@@ -84,17 +54,26 @@ fn put_count(out: &mut [u64], code: u64, n: usize) -> u64
     code
 }
 
+// The answer of `replaying::write`, `converting::short` and `converting::long`: how many bytes were written.
+pub fn put_replay(out: &mut [u64], a: Result<usize, Refusal>) -> u64
+    requires { refusal_length ≤ length out.old }
+    ensures { (result ≡ code_of (replay_of a)) × (out.new ≡ put_at out.old 0 (replay_words (replay_of a))) }
+{
+    match a {
+        Ok(size) => put_count(out, 0, size),
+        Err(refusal) => put_refusal(out, refusal),
+    }
+}
+
 // The answer of `arranging::judge_image`.
-pub fn put_shown(out: &mut [u64], a: Arrangement) -> u64
+pub fn put_shown(out: &mut [u64], a: Result<Shown, Refusal>) -> u64
     requires { refusal_length ≤ length out.old }
     ensures { (result ≡ shown_code (arrangement_of a)) × (out.new ≡ put_at out.old 0 (shown_words (arrangement_of a))) }
 {
     match a {
-        Arrangement::Refused(refusal) => put_refusal(out, refusal),
-        Arrangement::Shown(shown) => match shown {
-            Shown::Order(n) => put_count(out, 0, n),
-            Shown::Ring(n) => put_count(out, RING, n),
-        },
+        Ok(Shown::Order(n)) => put_count(out, 0, n),
+        Ok(Shown::Ring(n)) => put_count(out, RING, n),
+        Err(refusal) => put_refusal(out, refusal),
     }
 }
 
@@ -104,23 +83,18 @@ pub fn put_answer(out: &mut [u64], a: Answer) -> u64
     ensures { (result ≡ code_of (answer_of a)) × (out.new ≡ put_at out.old 0 (answer_words (answer_of a))) }
 {
     match a {
-        Answer::Refused(refusal) => put_refusal(out, refusal),
-        Answer::Judged {
-            verdicts,
-            records,
-            commits,
-            image_length,
-        } => {
+        Ok(j) => {
             judged::put_four(
                 out,
                 0,
                 0,
-                records as u64,
-                commits as u64,
-                image_length as u64,
+                j.records as u64,
+                j.commits as u64,
+                j.image_length as u64,
             );
-            judged::put_verdicts(out, verdicts);
+            judged::put_verdicts(out, j.verdicts);
             0
         }
+        Err(refusal) => put_refusal(out, refusal),
     }
 }

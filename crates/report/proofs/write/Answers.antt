@@ -8,10 +8,10 @@ use Rattle.report.proofs.write.Goals as goal
 pub returns-then-out-lt-LONGEST : goal.returns-then-out-lt-LONGEST
 returns-then-out-lt-LONGEST c = record { short = λ short. (search rules, search rules); text = λ room. absurd (omega arith); longest = search rules }
 
-pub returns-in-Refused : goal.returns-in-Refused
+pub returns-in-Err : goal.returns-in-Err
 unfolding report_text
-returns-in-Refused c = rw c.in-Refused.is record { short = λ short. absurd (omega arith); text = λ room. put-start c.put_refusal.ensures.put; longest = search rules }
+returns-in-Err c = rw c.in-Err.is record { short = λ short. absurd (omega arith); text = λ room. put-start c.put_refusal.ensures.put; longest = search rules }
 
-pub returns-in-Judged : goal.returns-in-Judged
+pub returns-in-Ok : goal.returns-in-Ok
 unfolding report_text
-returns-in-Judged c = rw c.in-Judged.is record { short = λ short. absurd (omega arith); text = λ room. put-start c.put_judged.ensures.put; longest = search rules }
+returns-in-Ok c = rw c.in-Ok.is record { short = λ short. absurd (omega arith); text = λ room. put-start c.put_judged.ensures.put; longest = search rules }

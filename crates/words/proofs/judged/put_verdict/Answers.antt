@@ -5,12 +5,12 @@ use Rattle.verdicts.specs.Told.{verdict_of}
 use Rattle.words.specs.Layout.{verdict_words}
 use Rattle.words.proofs.judged.put_verdict.Goals as goal
 
-pub returns-in-Accepted : goal.returns-in-Accepted
-returns-in-Accepted c =
+pub returns-in-Ok : goal.returns-in-Ok
+returns-in-Ok c =
     let a = c.args in
-    c.put_four.ensures ∙ ap (λ x. put_at a.out.now a.at (verdict_words (verdict_of x))) (sym c.in-Accepted.is)
+    c.put_four.ensures ∙ ap (λ x. put_at a.out.now a.at (verdict_words (verdict_of x))) (sym c.in-Ok.is)
 
-pub returns-in-Refused : goal.returns-in-Refused
-returns-in-Refused c =
+pub returns-in-Err : goal.returns-in-Err
+returns-in-Err c =
     let a = c.args in
-    c.put_four-in-Refused.ensures ∙ ap (λ x. put_at a.out.now a.at (verdict_words (verdict_of x))) (sym c.in-Refused.is)
+    c.put_four-in-Err.ensures ∙ ap (λ x. put_at a.out.now a.at (verdict_words (verdict_of x))) (sym c.in-Err.is)
