@@ -65,11 +65,9 @@ fn sweep(links: &[u64], n: usize) -> Leads
 {
     let mut prefix = 0u64;
     let mut snapshot = 0u64;
-    let mut t = 0usize;
-    while t < n {
+    for t in 0..n {
         prefix = sets::union(prefix, links[t]);
         snapshot = sets::union(snapshot, links[state::SNAPSHOT_LINKS + t]);
-        t += 1;
     }
     Leads { prefix, snapshot }
 }
@@ -227,10 +225,9 @@ pub fn catch_up(links: &mut [u64], n: usize, me: CommitNumber)
         return;
     }
     let end = me.0 - 1;
-    let mut last = links[state::ENTERED] as usize;
-    while last < end {
-        last = last + 1;
-        enter(links, CommitNumber(last), n);
+    let entered = links[state::ENTERED] as usize;
+    for last in entered..end {
+        enter(links, CommitNumber(last + 1), n);
     }
     links[state::ENTERED] = end as u64;
 }
