@@ -6,7 +6,7 @@ use lib.ListN.{get_or-append}
 use lib.Seq.{get_or-append_seam}
 use Rattle.search.specs.Choose.{when}
 use Rattle.search.proofs.Tests.{T?, both}
-use Rattle.sets.specs.Set.{Set, has, single, below, union, highest, lowest}
+use Rattle.sets.specs.Set.{Set, has, single, below, union, highest, Gives}
 use Rattle.sets.proofs.Laws.{has-highest, single-only}
 use Rattle.sets.proofs.Algebra.{insert-below, single-word}
 use Rattle.store.specs.Limits.{max_keys, max_commits}
@@ -209,12 +209,15 @@ module _ {s : Store} {c : Commit} {versions keys values : List ℕ} {ranks n : �
       stays : (j : Key) → k ≤ j → j < q → (writes_appended s c t).versions j ≡ s.versions j
       stays j x y = rw (g.operations.writes j) (appended-unwritten (has ranks (2 * j + 1)) (none j x y) _ t (s.versions j))
 
-  module _ {k : ℕ} {left : Set} (h : Left ranks 1 n k left) (small : n ≤ max_keys) (pos : 0 < left) {q : ℕ} (d : q ≡ lowest left / 2) (vs ks : List ℕ) (p : WritesPassed s c t n k vs ks) where
+  module _ {k : ℕ} {left : Set} (h : Left ranks 1 n k left) (small : n ≤ max_keys) {i rest : Set} (given : Gives left i rest) (vs ks : List ℕ) (p : WritesPassed s c t n k vs ks) where
+    abbrev q : Key
+    q = i / 2
+
     before : WritesPassed s c t n q vs ks
-    before = let (b, l, r, none) = next-key h pos d in skipped k q vs ks b (omega arith) none p
+    before = let (b, l, r, none) = next-key h given in skipped k q vs ks b (omega arith) none p
 
     l : q < n
-    l = (next-key h pos d).1
+    l = (next-key h given).1
 
     abbrev x : ℕ
     x = get_or values (2 * q + 1) 0
@@ -233,12 +236,12 @@ module _ {s : Store} {c : Commit} {versions keys values : List ℕ} {ranks n : �
 
     -- the versions of the key afterwards
     grows : (writes_appended s c t).versions q ≡ (s.versions q ++ (new x t ∷ []))
-    grows = rw (g.operations.writes q) (appended-written (has ranks (2 * q + 1)) (next-key h pos d).2 x t (s.versions q))
+    grows = rw (g.operations.writes q) (appended-written (has ranks (2 * q + 1)) (next-key h given).2 x t (s.versions q))
 
     -- and its writers before
     pub earlier-turn : (found : Set) → IsSet found (From (WrittenAt s c) k) → {next : Set} → next ≡ union found (get_or ks (writers_place q) 0) → IsSet next (From (WrittenAt s c) (q + 1))
     earlier-turn found y e =
-        let (b, _, r, none) = next-key h pos d in
+        let (b, _, r, none) = next-key h given in
         from-turn (WrittenAt s c) found y b (λ j a o. unwritten j (none j a o)) _
         (is_set-as _ (λ a. (λ z. (subst T (sym (writes-rank g.operations q)) r, z), λ (_, z). z)) here.writers) e
 

@@ -2,7 +2,7 @@
 use Rattle.std.proofs.Common.{◌≡◌, ℕ, ◌+◌, ◌*◌, ◌/◌, ◌<◌, ◌≤◌, Bool, true, false, T, ◌≢◌, ◌↔◌, List, length, get_or, set, sym, refl, ap, ◌∙◌, subst, arith, length-set, get_or-set_other, get_or-set_same}
 use native.Mathlib.Decide.{ℕ_discrete}
 use Rattle.search.specs.Choose.{when}
-use Rattle.sets.specs.Set.{Set, has, insert, below, lowest}
+use Rattle.sets.specs.Set.{Set, has, insert, below, Gives}
 use Rattle.store.specs.Limits.{max_keys}
 use Rattle.store.specs.Store.{Key, VersionNumber, CommitNumber, Value, Version, opening_version, View, Store, count, version, read, Commit}
 use Rattle.store.specs.Update.{value_of, newest, newest_visible, read_by, note_read}
@@ -98,11 +98,12 @@ module _ {s : Store} {u : View} {c : Commit} {versions views : List ℕ} {base :
       (λ j x y. rw (g.operations.reads j) (noted-unread (has ranks (2 * j)) (none j x y) _ (newest u j) t (s.versions j)))
 
   module _ {k : ℕ} {left : Set} (h : Left ranks 0 n k left) where
-    pub read-noted : n ≤ max_keys → 0 < left → {q : ℕ} → q ≡ lowest left / 2 → (before : List ℕ) {after : List ℕ}
-        → {v : VersionNumber} → v ≡ newest u q → after ≡ reader_added before (readers_place q v) t
-        → ReadsPassed s u c t n k before → ReadsPassed s u c t n (q + 1) after
-    read-noted small a {q} d before {after} f e p =
-        let (b, l, r, none) = next-key h a d in
+    pub read-noted : n ≤ max_keys → {i rest : Set} → Gives left i rest → (before : List ℕ) {after : List ℕ}
+        → {v : VersionNumber} → v ≡ newest u (i / 2) → after ≡ reader_added before (readers_place (i / 2) v) t
+        → ReadsPassed s u c t n k before → ReadsPassed s u c t n (i / 2 + 1) after
+    read-noted small {i} given before {after} f e p =
+        let q = i / 2 in
+        let (b, l, r, none) = next-key h given in
         let x : newest u q < count s q = seen-exists g q l in
         let y : count s q ≤ per_key = omega (arith, g.sound.few q, g.room-left) in
         subst (λ (z : List ℕ). ReadsPassed s u c t n (q + 1) z) (sym (rw f at e))
@@ -111,10 +112,10 @@ module _ {s : Store} {u : View} {c : Commit} {versions views : List ℕ} {base :
         (λ w. rw (g.operations.reads q, noted_read (has ranks (2 * q)) r (get_or values (2 * q) 0) (newest u q) t (s.versions q)) (reader-added before q (newest u q) t (s.versions q) (omega arith) x w)))
 
     -- of the key of the turn the code sees what was there before
-    pub seen-left : 0 < left → {q : ℕ} → q ≡ lowest left / 2 → (a : List ℕ) → ReadsPassed s u c t n k a → visible_in a (get_or views (base + q) 0) q ≡ newest_visible s u q
-    seen-left pos {q} d a p =
-        let (b, l, _, _) = next-key h pos d in
-        seen-is g q l a ((p.left q b l).each (newest u q) (seen-exists g q l)).head
+    pub seen-left : {i rest : Set} → Gives left i rest → (a : List ℕ) → ReadsPassed s u c t n k a → visible_in a (get_or views (base + i / 2) 0) (i / 2) ≡ newest_visible s u (i / 2)
+    seen-left {i} given a p =
+        let (b, l, _, _) = next-key h given in
+        seen-is g (i / 2) l a ((p.left (i / 2) b l).each (newest u (i / 2)) (seen-exists g (i / 2) l)).head
 
     pub reads-noted : (a : List ℕ) → k ≤ n → left ≡ 0 → VersionsRoom a → ReadsPassed s u c t n k a → KeepsVersions (reads_noted s u c t) a
     reads-noted a l e room p =

@@ -3,7 +3,7 @@
 use Rattle.std.proofs.Common.{◌≡◌, ℕ, ◌+◌, ◌*◌, ◌/◌, ◌<◌, ◌≤◌, T, ◌↔◌, List, get_or, sym, refl, ap, ◌∙◌, subst, arith}
 use native.Mathlib.Decide.{dec_lt}
 use Rattle.search.proofs.Tests.{both}
-use Rattle.sets.specs.Set.{Set, has, single, below, union, without, lowest}
+use Rattle.sets.specs.Set.{Set, has, single, below, union, without, Gives}
 use Rattle.sets.proofs.Laws.{has-below, below-has}
 use Rattle.store.specs.Store.{Key, View, Store, version, Commit}
 use Rattle.store.specs.Update.{reads, newest}
@@ -68,9 +68,9 @@ module _ {s : Store} {u : View} {c : Commit} {versions views : List ℕ} {base :
     (g : Given s u c versions views base values ranks n) {k : ℕ} {left : Set} (h : Left ranks 0 n k left) where
   -- what the keys that are read add, up to the key of the turn
   module _ (P : Key → ℕ → Type 0) (only : (q t : ℕ) → P q t → T (reads c q)) (found : Set) (p : IsSet found (From P k)) where
-    pub reads-turn : 0 < left → {q : ℕ} → q ≡ lowest left / 2 → (m : Set) {next : Set} → next ≡ union found m → IsSet m (P q) → IsSet next (From P (q + 1))
-    reads-turn a {q} e m z x =
-        let (b, _, _, none) = next-key h a e in
+    pub reads-turn : {i rest : Set} → Gives left i rest → (m : Set) {next : Set} → next ≡ union found m → IsSet m (P (i / 2)) → IsSet next (From P (i / 2 + 1))
+    reads-turn given m z x =
+        let (b, _, _, none) = next-key h given in
         from-turn P found p b (λ j l o t y. unread g j (none j l o) (only j t y)) m x z
 
     pub reads_all : k ≤ n → left ≡ 0 → IsSet found (λ t. (q : Key) × P q t)

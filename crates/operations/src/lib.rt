@@ -58,9 +58,8 @@ pub fn note_reads(
 {
     let mut from: u64 = 0;
     let mut over: u64 = 0;
-    let mut left = state::keys_with(ranks, READ, n);
-    while left != 0 {
-        let k = sets::lowest(left) / 2;
+    for twice in sets::Members(state::keys_with(ranks, READ, n)) {
+        let k = twice / 2;
         let sees = state::newest_visible(versions, views[base + k], Key(k));
         if values[2 * k] != sees.value {
             return Err(WrongRead { key: Key(k), sees });
@@ -71,7 +70,6 @@ pub fn note_reads(
         let later = sets::without(keys[state::WRITERS + k], sets::up_to(writer.0));
         over = sets::union(over, later);
         note_read(versions, Key(k), version, me);
-        left = sets::rest(left);
     }
     Ok(Sources { from, over })
 }
@@ -143,12 +141,10 @@ pub fn append(
         → KeepsVersions (writes_appended s c me.0) versions.new × KeepsKeys (writes_appended s c me.0) keys.new × IsSet result (FromWrite s c) }
 {
     let mut earlier: u64 = 0;
-    let mut left = state::keys_with(ranks, WRITE, n);
-    while left != 0 {
-        let k = sets::lowest(left) / 2;
+    for twice in sets::Members(state::keys_with(ranks, WRITE, n)) {
+        let k = twice / 2;
         earlier = sets::union(earlier, keys[state::WRITERS + k]);
         append_at(versions, keys, values[2 * k + 1], Key(k), me);
-        left = sets::rest(left);
     }
     earlier
 }

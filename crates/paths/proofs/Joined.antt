@@ -2,7 +2,7 @@
 -- Assumes nothing.
 use Prim.Native.Nat.{ℕ, zero, suc, ◌+◌, ◌*◌, ◌^◌, ◌≤◌, ◌<◌}
 use mathlib.Core.Path.{◌≡◌, refl, sym, ap, ◌∙◌, subst}
-use mathlib.Core.Logic.{◌⊎◌, inl, inr, ◌↔◌, ◌≢◌}
+use mathlib.Core.Logic.{◌⊎◌, inl, inr, ⊎_elim, ◌↔◌}
 use mathlib.Core.List.{List}
 use native.Mathlib.Omega.{arith}
 use native.Mathlib.Decide.{ℕ_discrete}
@@ -10,12 +10,12 @@ use lib.Dec.{T}
 use lib.ListN.{length, get_or, set, length-set}
 use lib.Seq.{get_or-set_same, get_or-set_other}
 use Rattle.search.proofs.Tests.{same, both}
-use Rattle.sets.specs.Set.{Set, has, single, union, without, lowest}
-use Rattle.sets.proofs.Laws.{has-none, has-lt, has-lowest}
+use Rattle.sets.specs.Set.{Set, has, union, Gives}
+use Rattle.sets.proofs.Laws.{has-none, has-lt}
+use Rattle.sets.proofs.Algebra.{gives_is, gives-left}
 use Rattle.store.specs.Limits.{max_keys, numbers}
 use Rattle.state.specs.Places.{link_place, lead_place, links_length}
 use Rattle.state.specs.Keeps.{IsSet}
-use Rattle.state.proofs.Sets.{is_set-single, is_set-without}
 use Rattle.state.proofs.Below.{below-passed, below-turn, from-none, RowWith, keys-turn, keys-passed}
 use Rattle.paths.specs.Added.{BroughtBelow, Joined, GainsAt, RowsOf, LeadsOf}
 
@@ -134,39 +134,33 @@ module _ (over first into : Set) where
   pub rows_all : (j : ℕ) (g : Set) → RowsTaken over first into 0 j g ↔ RowsOf over first into j g
   rows_all j g = (λ (t, o, _, e). (t, o, e), λ (t, o, e). (t, o, has-none t, e))
 
-  module _ (fits : over < 2 ^ 64) (left : Set) (within : (t : ℕ) → T (has left t) → T (has over t)) (t : ℕ) (waits : T (has left t)) {rest : Set} (less : rest ≡ without left (single t)) where
-    rest-is : IsSet rest (λ a. T (has left a) × (a ≢ t))
-    rest-is = subst (λ (x : ℕ). IsSet x (λ a. T (has left a) × (a ≢ t))) (sym less) (is_set-without left (single t) (λ a. same) (is_set-single t))
-
+  module _ (fits : over < 2 ^ 64) {left : Set} (within : (t : ℕ) → T (has left t) → T (has over t)) {t : ℕ} {rest : Set} (given : Gives left t rest) where
     rest-within : (a : ℕ) → T (has rest a) → T (has over a)
-    rest-within a h = within a ((rest-is a).0 h).0
+    rest-within a h = within a ((gives_is given a).1 (inr h))
 
     -- a member that is left has its own rows
     rows_apart : (kind : ℕ) (g : Set) → ¬ RowsTaken over first into left (link_place kind t) g
     rows_apart kind g (a, o, n, (other, _, e, _)) =
-        let q : t ≡ a = omega (arith, has-lt 64 over t fits (within t waits), has-lt 64 over a fits o) in
-        n (subst (λ (x : ℕ). T (has left x)) q waits)
+        let q : t ≡ a = omega (arith, given.bound, has-lt 64 over a fits o) in n (subst (λ (x : ℕ). T (has left x)) q given.held)
 
     rows_taken : (j : ℕ) (g : Set) → RowsTaken over first into rest j g ↔ (RowsTaken over first into left j g ⊎ GainsAt link_place first into t j g)
     rows_taken j g = (λ (a, o, n, e). out a o n e (ℕ_discrete a t), back)
       where
         out : (a : ℕ) → T (has over a) → ¬ T (has rest a) → GainsAt link_place first into a j g → Dec (a ≡ t) → RowsTaken over first into left j g ⊎ GainsAt link_place first into t j g
         out a o n e (yes q) = inr (subst (λ (x : ℕ). GainsAt link_place first into x j g) q e)
-        out a o n e (no q) = inl (a, o, λ l. n ((rest-is a).1 (l, q)), e)
+        out a o n e (no q) = inl (a, o, λ l. ⊎_elim q n ((gives_is given a).0 l), e)
 
         back : RowsTaken over first into left j g ⊎ GainsAt link_place first into t j g → RowsTaken over first into rest j g
-        back (inl (a, o, n, e)) = (a, o, λ r. n ((rest-is a).0 r).0, e)
-        back (inr e) = (t, within t waits, λ r. ((rest-is t).0 r).1 refl, e)
+        back (inl (a, o, n, e)) = (a, o, λ r. n ((gives_is given a).1 (inr r)), e)
+        back (inr e) = (t, within t given.held, λ r. absurd (omega (arith, gives-left given t r)), e)
 
 -- one turn of the loop, by what its calls answer
-pub rows-turn : (over first into : Set) → over < 2 ^ 64 → {before after : List ℕ} (left t : ℕ) → (left ≡ 0 → ⊥) → left < 2 ^ 64 → t ≡ lowest left → t < 64
+pub rows-turn : (over first into : Set) → over < 2 ^ 64 → {before after : List ℕ} {left t : ℕ} {rest : Set} → Gives left t rest
     → ((a : ℕ) → T (has left a) → T (has over a)) → Joined (RowsTaken over first into left) before after → 2 * numbers ≤ length after
-    → {w₀ w₁ : Set} → w₀ ≡ union (get_or after t 0) first → w₁ ≡ union (get_or (set after t w₀) (numbers + t) 0) into → {rest : Set} → rest ≡ without left (single (lowest left))
+    → {w₀ w₁ : Set} → w₀ ≡ union (get_or after t 0) first → w₁ ≡ union (get_or (set after t w₀) (numbers + t) 0) into
     → ((a : ℕ) → T (has rest a) → T (has over a)) × Joined (RowsTaken over first into rest) before (set (set after t w₀) (numbers + t) w₁)
-rows-turn over first into fits left t some l e small within h room f₀ f₁ less =
-    let waits : T (has left t) = rw e (has-lowest left (omega arith) l) in
-    let less' = rw (← e) at less in (
-      rest-within over first into fits left within t waits less',
-      joined-both h link_place first into t (omega arith) (omega arith) (omega arith) (omega arith)
-          (rows_apart over first into fits left within t waits less') (rows_taken over first into fits left within t waits less') f₀ f₁,
-    )
+rows-turn over first into fits {t = t} given within h room f₀ f₁ = (
+  rest-within over first into fits within given,
+  joined-both h link_place first into t (omega arith) (omega arith) (omega (arith, given.bound)) (omega (arith, given.bound))
+      (rows_apart over first into fits within given) (rows_taken over first into fits within given) f₀ f₁,
+)

@@ -65,11 +65,9 @@ fn sweep(links: &[u64], n: usize) -> Leads
 {
     let mut prefix = 0u64;
     let mut snapshot = 0u64;
-    let mut t = 0usize;
-    while t < n {
+    for t in 0..n {
         prefix = sets::union(prefix, links[t]);
         snapshot = sets::union(snapshot, links[state::SNAPSHOT_LINKS + t]);
-        t += 1;
     }
     Leads { prefix, snapshot }
 }
@@ -112,12 +110,10 @@ fn brought(links: &[u64], ranks: u64, n: usize) -> Leads
 {
     let mut prefix = 0u64;
     let mut snapshot = 0u64;
-    let mut left = state::keys_with(ranks, 1, n);
-    while left != 0 {
-        let k = sets::lowest(left) / 2;
+    for twice in sets::Members(state::keys_with(ranks, 1, n)) {
+        let k = twice / 2;
         prefix = sets::union(prefix, links[state::LEADS + k]);
         snapshot = sets::union(snapshot, links[state::SNAPSHOT_LEADS + k]);
-        left = sets::rest(left);
     }
     Leads { prefix, snapshot }
 }
@@ -127,12 +123,9 @@ fn point(links: &mut [u64], over: u64, first: u64, into: u64)
     requires { LinksRoom links.old }
     ensures { Joined (RowsOf over first into) links.old links.new }
 {
-    let mut left = over;
-    while left != 0 {
-        let t = sets::lowest(left);
+    for t in sets::Members(over) {
         links[t] = sets::union(links[t], first);
         links[state::SNAPSHOT_LINKS + t] = sets::union(links[state::SNAPSHOT_LINKS + t], into);
-        left = sets::rest(left);
     }
 }
 
@@ -141,12 +134,10 @@ fn bring(links: &mut [u64], ranks: u64, n: usize, first: u64, into: u64)
     requires { LinksRoom links.old × (n ≤ max_keys) }
     ensures { Joined (LeadsOf ranks n first into) links.old links.new }
 {
-    let mut left = state::keys_with(ranks, 0, n);
-    while left != 0 {
-        let k = sets::lowest(left) / 2;
+    for twice in sets::Members(state::keys_with(ranks, 0, n)) {
+        let k = twice / 2;
         links[state::LEADS + k] = sets::union(links[state::LEADS + k], first);
         links[state::SNAPSHOT_LEADS + k] = sets::union(links[state::SNAPSHOT_LEADS + k], into);
-        left = sets::rest(left);
     }
 }
 
@@ -227,10 +218,9 @@ pub fn catch_up(links: &mut [u64], n: usize, me: CommitNumber)
         return;
     }
     let end = me.0 - 1;
-    let mut last = links[state::ENTERED] as usize;
-    while last < end {
-        last = last + 1;
-        enter(links, CommitNumber(last), n);
+    let entered = links[state::ENTERED] as usize;
+    for last in entered..end {
+        enter(links, CommitNumber(last + 1), n);
     }
     links[state::ENTERED] = end as u64;
 }

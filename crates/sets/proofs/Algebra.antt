@@ -1,17 +1,17 @@
 -- What each operation on sets holds, as equations of tests; sets that hold the same numbers are one number. Assumes nothing.
 use mathlib.Core.Path.{◌≡◌, refl, sym, ap, ◌∙◌, subst}
 use mathlib.Core.Bool.{Bool, true≢false, false≢true, ◌&&◌, ◌||◌, not}
-use mathlib.Core.Logic.{◌↔◌}
+use mathlib.Core.Logic.{◌⊎◌, inl, inr, ◌↔◌}
 use Prim.Native.Nat.{ℕ, zero, suc, ◌+◌, ◌%◌, ◌^◌, ◌<◌, min, max}
 use native.Mathlib.Nat.{mod-eq_of_lt, one-mul, pow-suc}
 use native.Mathlib.Numerals.{one-add}
 use native.Mathlib.Omega.{arith}
-use native.Mathlib.Decide.{dec_lt}
+use native.Mathlib.Decide.{ℕ_discrete, dec_lt}
 use lib.Dec.{T, eqb, eqb→eq, ltb}
 use lib.Bits.{bit_and, bit_or, differ, or_comm, or_lt, or_add_and, xor_lt, and_le_l, and_le_r, or_shifted_r}
 use lib.Pow.{pow_pos, pow-lt, mod-pow-add}
 use Rattle.search.proofs.Tests.{same, same_test, or_right, eq_test, and_is, not_is, stable, lt-is}
-use Rattle.sets.specs.Set.{Set, has, insert, single, union, without, below}
+use Rattle.sets.specs.Set.{Set, has, insert, single, union, without, below, Gives}
 use Rattle.sets.proofs.Digits.{digit, at_place, digit_and, digit_or, digit-xor}
 use Rattle.sets.proofs.Laws.{has-none, single-has, single-only, has-below, below-has, below-small}
 
@@ -43,6 +43,28 @@ without_is a b i = rw (has-without a b i) (and_is (has a i) (not (has b i)) same
 
 pub has-single : (t i : ℕ) → has (single t) i ≡ eqb i t
 has-single t i = same_test _ _ (λ h. eq_test i t (single-only t i h)) (λ h. let e : i ≡ t = eqb→eq i t h in rw e (single-has t))
+
+-- of a set that gives a number: that one, and what is left
+pub gives_is : {m i left : ℕ} → Gives m i left → (t : ℕ) → T (has m t) ↔ ((t ≡ i) ⊎ T (has left t))
+gives_is {m} {i} {left} g t = (λ h. go h (ℕ_discrete t i), back)
+  where
+    kept : T (has left t) ↔ (T (has m t) × (¬ T (has (single i) t)))
+    kept = rw g.others (without_is m (single i) t)
+
+    go : T (has m t) → Dec (t ≡ i) → (t ≡ i) ⊎ T (has left t)
+    go h (yes e) = inl e
+    go h (no n) = inr (kept.1 (h, λ x. n (single-only i t x)))
+
+    back : (t ≡ i) ⊎ T (has left t) → T (has m t)
+    back (inl e) = rw e g.held
+    back (inr h) = (kept.0 h).0
+
+-- what is left is above it
+pub gives-left : {m i left : ℕ} → Gives m i left → (t : ℕ) → T (has left t) → i < t
+gives-left {m} {i} {left} g t h = omega (arith, g.least t ((gives_is g t).1 (inr h)), other)
+  where
+    other : ¬ (t ≡ i)
+    other e = ((without_is m (single i) t).0 (rw g.others at h)).1 (rw e (single-has i))
 
 pub insert-union : (t m : ℕ) → insert t m ≡ union (single t) m
 unfolding union

@@ -12,7 +12,7 @@ use lib.Pow.{mod-pow-add, pow_pos, pow-lt, pow-add, pow_mono, ones_split, ones_l
 use lib.Count.{count_leading_zeros, leading_top, count_trailing_zeros, under, ones-le}
 use Rattle.search.proofs.Tests.{eq_test}
 use Rattle.sets.proofs.Digits.{digit, digit-small, digit_and, digit_or}
-use Rattle.sets.specs.Set.{has, insert, single, below, highest, lowest, size}
+use Rattle.sets.specs.Set.{has, insert, single, without, below, highest, lowest, size, Gives}
 
 -- ---- single numbers
 
@@ -181,6 +181,9 @@ module _ (m : ℕ) (p : 0 < m) (l : m < 2 ^ 64) where
 
   pub lowest-word : lowest m < 64
   lowest-word = has-lt 64 m (lowest m) l has-lowest
+
+  pub gives-lowest : Gives m (lowest m) (without m (single (lowest m)))
+  gives-lowest = record { held = has-lowest; least = lowest-least; bound = lowest-word; others = refl }
 
 -- ---- how many
 

@@ -1,6 +1,6 @@
 -- A word of 64 bits as a set of numbers below 64: "bit i of a mask stands for version i" (01, The trace file), and
 -- "readers u64 with bit c for commit c" (01, The image). Assumes nothing.
-use Rattle.std.specs.Prelude.{ℕ, zero, suc, ◌-◌, ◌/◌, ◌%◌, ◌^◌, Bool, eqb}
+use Rattle.std.specs.Prelude.{◌≡◌, ℕ, zero, suc, ◌-◌, ◌/◌, ◌%◌, ◌^◌, ◌<◌, ◌≤◌, Bool, eqb, T}
 use Rattle.std.specs.Int.Bits.{bit_and, bit_or, bit_xor}
 use Rattle.std.specs.Int.Count.{count_leading_zeros, count_trailing_zeros, ones}
 use Rattle.search.specs.Choose.{choose}
@@ -44,6 +44,13 @@ highest m = 63 - count_leading_zeros 64 m
 -- the least number that the set holds
 unfoldable pub lowest : Set → ℕ
 lowest m = count_trailing_zeros 64 m
+
+-- a set gives its least number, and the others are left
+pub record Gives (m : Set) (i : ℕ) (left : Set) : Type 0 where
+  pub held : T (has m i)
+  pub least : (j : ℕ) → T (has m j) → i ≤ j
+  pub bound : i < width
+  pub others : left ≡ without m (single i)
 
 -- how many numbers the set holds: "ones count readers" (01, Which shape goes where)
 unfoldable pub size : Set → ℕ

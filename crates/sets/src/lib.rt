@@ -1,8 +1,9 @@
 // Sets of numbers below 64, each in a u64: bit i stands for i. What each function answers is a definition of specs/Set.antt.
 #![tactic(auto)]
 
-ghost use Rattle.std.specs.Prelude.{◌≡◌, ◌+◌, ◌<◌, ◌≤◌};
-ghost use Rattle.sets.specs.Set.{has, single, insert, union, without, below, highest, lowest, size};
+ghost use Rattle.std.specs.Prelude.{◌≡◌, ◌+◌, ◌<◌, ◌≤◌, MatchOption};
+ghost use Rattle.std.specs.Iterator.{at_most};
+ghost use Rattle.sets.specs.Set.{has, single, insert, union, without, below, highest, lowest, size, Gives};
 
 // Whether the set holds i.
 pub fn has(m: u64, i: usize) -> bool
@@ -92,4 +93,25 @@ pub fn size(m: u64) -> usize
     ensures { (result ≡ size m) × (result ≤ 64) }
 {
     u64::count_ones(m) as usize
+}
+
+// The numbers that a set holds, from the least on; the set that is left.
+#[derive(Drop)]
+pub struct Members(pub u64);
+
+impl Iterator for Members {
+    type Item = usize;
+
+    ghost next_gives = { λ old r new. MatchOption r ((old.0 ≡ 0) × (new.0 ≡ 0)) (λ i. Gives old.0 i new.0) };
+
+    ghost remaining = { λ s. at_most s.0 };
+
+    fn next(&mut self) -> Option<usize> {
+        if self.0 == 0 {
+            return None;
+        }
+        let i = lowest(self.0);
+        self.0 = rest(self.0);
+        Some(i)
+    }
 }

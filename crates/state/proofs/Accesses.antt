@@ -2,6 +2,7 @@
 use Prim.Native.Nat.{ℕ, zero, suc, ◌+◌, ◌*◌, ◌/◌, ◌%◌, ◌^◌, ◌≤◌, ◌<◌}
 use mathlib.Core.Path.{◌≡◌, refl, sym, ap, ◌∙◌, subst}
 use mathlib.Core.Bool.{false, ◌&&◌, not}
+use mathlib.Core.Logic.{inr, ⊎_elim}
 use native.Mathlib.Omega.{arith}
 use native.Mathlib.Nat.{add_comm}
 use lib.Dec.{T, eqb, lit<}
@@ -10,53 +11,40 @@ use lib.Pow.{shr-shr}
 use Rattle.search.specs.Search.{any}
 use Rattle.search.proofs.Search.{any-in}
 use Rattle.search.proofs.Tests.{false-T, eq_test, and_is, not_is, stable, same}
-use Rattle.sets.specs.Set.{Set, has, single, below, without, lowest}
-use Rattle.sets.proofs.Laws.{has-none, has-lt, has-below, below-has, below_word, has-lowest, lowest-least, single-only, single-has}
-use Rattle.sets.proofs.Algebra.{both_is, without_is, without-word}
+use Rattle.sets.specs.Set.{Set, has, single, below, lowest, Gives}
+use Rattle.sets.proofs.Laws.{has-none, has-lt, has-below, below-has, below_word, has-lowest}
+use Rattle.sets.proofs.Algebra.{both_is, gives_is, gives-left, without-word}
 use Rattle.store.specs.Limits.{max_keys}
 use Rattle.state.specs.Accesses.{rank, Left}
 
 -- ---- one turn of the loop
 
-module _ {ranks : Set} {access n k : ℕ} {left : Set} (h : Left ranks access n k left) (p : 0 < left) where
-  least : (q : ℕ) × (lowest left ≡ 2 * q) × (k ≤ q) × (q < n) × T (has ranks (rank access q))
-  least = h.only (lowest left) (has-lowest left p h.word)
-
+module _ {ranks access n k : ℕ} {left i rest : Set} (h : Left ranks access n k left) (g : Gives left i rest) where
   -- the key of the turn: there is an operation, and none on the keys before it that are still to be passed
-  pub next-key : {q : ℕ} → q ≡ lowest left / 2 → (k ≤ q) × (q < n) × T (has ranks (rank access q)) × ((j : ℕ) → k ≤ j → j < q → ¬ T (has ranks (rank access j)))
-  next-key {q} e =
-      let (x, d, a, b, t) = least in
-      let f : q ≡ x = omega (arith, e, d) in (
+  pub next-key : (k ≤ i / 2) × (i / 2 < n) × T (has ranks (rank access (i / 2))) × ((j : ℕ) → k ≤ j → j < i / 2 → ¬ T (has ranks (rank access j)))
+  next-key =
+      let (x, d, a, b, t) = h.only i g.held in
+      let f : i / 2 ≡ x = omega (arith, d) in (
         omega (arith, f, a),
         omega (arith, f, b),
         subst (λ (y : ℕ). T (has ranks (rank access y))) (sym f) t,
-        λ j l m u. let g : lowest left ≤ 2 * j = lowest-least left p h.word (2 * j) (h.all j l (omega (arith, f, b)) u) in omega (arith, f, d, g),
+        λ j l m u. let e : i ≤ 2 * j = g.least (2 * j) (h.all j l (omega (arith, f, b)) u) in omega (arith, f, d, e),
       )
 
+  -- it is one of the n keys
+  pub turn_below : i / 2 < n
+  turn_below = next-key.1
+
   -- what is left after it
-  pub left-rest : {q : ℕ} {next : Set} → q ≡ lowest left / 2 → next ≡ without left (single (lowest left)) → Left ranks access n (q + 1) next
-  left-rest {q} {next} e z = subst (λ (x : Set). Left ranks access n (q + 1) x) (sym z) record {
-    word = without-word left (single (lowest left)) h.word;
-    only = λ i t. let (a, b) = (without_is left (single (lowest left)) i).0 t in passed i a b (h.only i a);
-    all = λ j l m t. (without_is left (single (lowest left)) (2 * j)).1 (h.all j (omega (arith, least-is, (next-key e).0)) m t, λ s. let y : 2 * j ≡ lowest left = single-only (lowest left) (2 * j) s in omega (arith, y, e));
+  pub left-rest : Left ranks access n (i / 2 + 1) rest
+  left-rest = record {
+    word = rw g.others (without-word left (single i) h.word);
+    only = λ j t. passed j (gives-left g j t) (h.only j ((gives_is g j).1 (inr t)));
+    all = λ j l m t. ⊎_elim (λ e. absurd (omega arith)) (λ x. x) ((gives_is g (2 * j)).0 (h.all j (omega (arith, next-key.0)) m t));
   }
     where
-      least-is : lowest left ≡ 2 * q
-      least-is = let (x, d, a, b, t) = least in omega (arith, e, d)
-
-      passed : (i : ℕ) → T (has left i) → ¬ T (has (single (lowest left)) i) → (j : ℕ) × (i ≡ 2 * j) × (k ≤ j) × (j < n) × T (has ranks (rank access j))
-          → (j : ℕ) × (i ≡ 2 * j) × (q + 1 ≤ j) × (j < n) × T (has ranks (rank access j))
-      passed i a b (j, d, l, m, t) =
-          let f : lowest left ≤ i = lowest-least left p h.word i a in
-          let g : ¬ (i ≡ lowest left) = (λ y. b (rw y (single-has (lowest left)))) in
-          (j, d, later f g, m, t)
-        where
-          later : lowest left ≤ i → ¬ (i ≡ lowest left) → q + 1 ≤ j
-          later f g = omega (arith, f, g, d, least-is)
-
--- the key of a turn is one of the n keys
-pub turn_below : {ranks : Set} {access n k : ℕ} {left : Set} → Left ranks access n k left → 0 < left → {r : ℕ} → r ≡ lowest left → r / 2 < n
-turn_below h p e = (next-key h p (ap (λ (x : ℕ). x / 2) e)).1
+      passed : (j : ℕ) → i < j → (q : ℕ) × (j ≡ 2 * q) × (k ≤ q) × (q < n) × T (has ranks (rank access q)) → (q : ℕ) × (j ≡ 2 * q) × (i / 2 + 1 ≤ q) × (q < n) × T (has ranks (rank access q))
+      passed j f (q, d, l, m, t) = (q, d, omega (arith, f, d, h.only i g.held), m, t)
 
 -- where nothing is left, no key from k on has an operation
 pub left-none : {ranks : Set} {access n k left : ℕ} → Left ranks access n k left → left ≡ 0 → (j : ℕ) → k ≤ j → j < n → ¬ T (has ranks (rank access j))

@@ -1,15 +1,14 @@
 -- Gathering a set of commits from rows, turn by turn. Assumes nothing.
-use Prim.Native.Nat.{ℕ, ◌+◌, ◌^◌, ◌<◌}
+use Prim.Native.Nat.{ℕ, ◌+◌}
 use mathlib.Core.Path.{◌≡◌, subst}
 use mathlib.Core.Logic.{◌⊎◌, inl, inr, ◌↔◌}
 use mathlib.Core.List.{List}
-use native.Mathlib.Decide.{ℕ_discrete}
 use lib.Dec.{T}
 use lib.ListN.{get_or}
 use Rattle.search.proofs.Tests.{same, both}
-use Rattle.sets.specs.Set.{Set, has, single, union, without, lowest}
-use Rattle.sets.proofs.Laws.{has-none, single-only, has-lowest}
-use Rattle.sets.proofs.Algebra.{without_is}
+use Rattle.sets.specs.Set.{Set, has, union, Gives}
+use Rattle.sets.proofs.Laws.{has-none}
+use Rattle.sets.proofs.Algebra.{gives_is}
 use Rattle.store.specs.Store.{CommitNumber}
 use Rattle.state.specs.Keeps.{IsSet}
 use Rattle.state.specs.Rows.{InRows}
@@ -33,34 +32,33 @@ gathering-ends {rows} {from} {set} {all} {left} g e a = (λ x. (g.is a).0 (inl x
     go (inl x) = x
     go (inr (t, x, y)) = absurd (has-none t (rw e at x))
 
--- the rows of a set: that of its lowest number, and those of the rest
-lowest-and-rest : (rows : List ℕ) (from : ℕ) (left : Set) → 0 < left → left < 2 ^ 64 → (a : CommitNumber)
-    → InRows rows from left a ↔ (T (has (get_or rows (from + lowest left) 0) a) ⊎ InRows rows from (without left (single (lowest left))) a)
-lowest-and-rest rows from left p l a = (λ (t, x, y). out t x y (ℕ_discrete t (lowest left)), back)
+-- the rows of a set: that of the number that it gives, and those of what is left
+given-and-left : (rows : List ℕ) (from : ℕ) {set t left : Set} → Gives set t left → (a : CommitNumber)
+    → InRows rows from set a ↔ (T (has (get_or rows (from + t) 0) a) ⊎ InRows rows from left a)
+given-and-left rows from {set} {t} {left} g a = (λ (i, x, y). out i y ((gives_is g i).0 x), back)
   where
-    out : (t : ℕ) → T (has left t) → T (has (get_or rows (from + t) 0) a) → Dec (t ≡ lowest left)
-        → T (has (get_or rows (from + lowest left) 0) a) ⊎ InRows rows from (without left (single (lowest left))) a
-    out t x y (yes e) = inl (subst (λ (n : ℕ). T (has (get_or rows (from + n) 0) a)) e y)
-    out t x y (no n) = inr (t, (without_is left (single (lowest left)) t).1 (x, λ z. n (single-only (lowest left) t z)), y)
+    out : (i : ℕ) → T (has (get_or rows (from + i) 0) a) → (i ≡ t) ⊎ T (has left i) → T (has (get_or rows (from + t) 0) a) ⊎ InRows rows from left a
+    out i y (inl e) = inl (subst (λ (n : ℕ). T (has (get_or rows (from + n) 0) a)) e y)
+    out i y (inr x) = inr (i, x, y)
 
-    back : T (has (get_or rows (from + lowest left) 0) a) ⊎ InRows rows from (without left (single (lowest left))) a → InRows rows from left a
-    back (inl y) = (lowest left, has-lowest left p l, y)
-    back (inr (t, x, y)) = (t, ((without_is left (single (lowest left)) t).0 x).0, y)
+    back : T (has (get_or rows (from + t) 0) a) ⊎ InRows rows from left a → InRows rows from set a
+    back (inl y) = (t, g.held, y)
+    back (inr (i, x, y)) = (i, (gives_is g i).1 (inr x), y)
 
-pub gathering-on : {rows : List ℕ} {from : ℕ} {set all left t next rest : Set} → Gathering rows from set all left → 0 < left → left < 2 ^ 64
-    → t ≡ lowest left → next ≡ union all (get_or rows (from + t) 0) → rest ≡ without left (single (lowest left)) → Gathering rows from set next rest
-gathering-on {rows} {from} {set} {all} {left} g p l e f h = rw (h, f, e) (record { is = λ a. both (there a, here a) (g.is a) })
+pub gathering-on : {rows : List ℕ} {from : ℕ} {set all left t next rest : Set} → Gathering rows from set all left → Gives left t rest
+    → next ≡ union all (get_or rows (from + t) 0) → Gathering rows from set next rest
+gathering-on {rows} {from} {set} {all} {left} {t} {rest = rest} g f e = rw e (record { is = λ a. both (there a, here a) (g.is a) })
   where
     row : Set
-    row = get_or rows (from + lowest left) 0
+    row = get_or rows (from + t) 0
 
     in-union : (a : CommitNumber) → T (has (union all row) a) ↔ (T (has all a) ⊎ T (has row a))
     in-union = is_set-union all row (λ a. same) (λ a. same)
 
-    split : (a : CommitNumber) → InRows rows from left a ↔ (T (has row a) ⊎ InRows rows from (without left (single (lowest left))) a)
-    split = lowest-and-rest rows from left p l
+    split : (a : CommitNumber) → InRows rows from left a ↔ (T (has row a) ⊎ InRows rows from rest a)
+    split = given-and-left rows from f
 
-    there : (a : CommitNumber) → T (has (union all row) a) ⊎ InRows rows from (without left (single (lowest left))) a → T (has all a) ⊎ InRows rows from left a
+    there : (a : CommitNumber) → T (has (union all row) a) ⊎ InRows rows from rest a → T (has all a) ⊎ InRows rows from left a
     there a (inr y) = inr ((split a).1 (inr y))
     there a (inl x) = go ((in-union a).0 x)
       where
@@ -68,10 +66,10 @@ gathering-on {rows} {from} {set} {all} {left} g p l e f h = rw (h, f, e) (record
         go (inl y) = inl y
         go (inr y) = inr ((split a).1 (inl y))
 
-    here : (a : CommitNumber) → T (has all a) ⊎ InRows rows from left a → T (has (union all row) a) ⊎ InRows rows from (without left (single (lowest left))) a
+    here : (a : CommitNumber) → T (has all a) ⊎ InRows rows from left a → T (has (union all row) a) ⊎ InRows rows from rest a
     here a (inl x) = inl ((in-union a).1 (inl x))
     here a (inr y) = go ((split a).0 y)
       where
-        go : T (has row a) ⊎ InRows rows from (without left (single (lowest left))) a → T (has (union all row) a) ⊎ InRows rows from (without left (single (lowest left))) a
+        go : T (has row a) ⊎ InRows rows from rest a → T (has (union all row) a) ⊎ InRows rows from rest a
         go (inl z) = inl ((in-union a).1 (inr z))
         go (inr z) = inr z

@@ -221,11 +221,8 @@ pub fn gather(rows: &[u64], from: usize, set: u64) -> u64
     ensures { IsSet result (InRows rows.now from set) }
 {
     let mut all = 0u64;
-    let mut left = set;
-    while left != 0 {
-        let t = sets::lowest(left);
+    for t in sets::Members(set) {
         all = sets::union(all, rows[from + t]);
-        left = sets::rest(left);
     }
     all
 }
@@ -244,12 +241,9 @@ pub fn gather_two(rows: &[u64], one: usize, two: usize, set: u64) -> Gathered
 {
     let mut first = 0u64;
     let mut second = 0u64;
-    let mut left = set;
-    while left != 0 {
-        let t = sets::lowest(left);
+    for t in sets::Members(set) {
         first = sets::union(first, rows[one + t]);
         second = sets::union(second, rows[two + t]);
-        left = sets::rest(left);
     }
     Gathered { first, second }
 }

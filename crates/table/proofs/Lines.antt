@@ -36,10 +36,6 @@ put-next-row rows i {before} {after = after} {end = end} p l q f =
     subst (λ (t : List ℕ). Put before 0 t after end)
     (sym (ap (λ (k : ℕ). table_text (take k rows)) (add-one i) ∙ ap table_text (take-suc rows i 0 l) ∙ rows_last (take i rows) (get_or rows i 0))) (put_both p (put_both q f))
 
--- after the last one
-pub put-all-rows : (rows : List ℕ) (i n : ℕ) → i ≡ n → {before after : List ℕ} {end : ℕ} → Put before 0 (table_text (take i rows)) after end → Put before 0 (table_text (take n rows)) after end
-put-all-rows rows i n e {before} {after} {end} p = subst (λ (k : ℕ). Put before 0 (table_text (take k rows)) after end) e p
-
 -- ---- where the table fits, and where not
 
 module _ (rows : List ℕ) (n : ℕ) {d : List ℕ} where

@@ -52,10 +52,8 @@ fn chosen(
     ensures { IsSet result (Chosen versions.now keys.now masks.now base ranks readers n) }
 {
     let mut all = 0u64;
-    let mut k: usize = 0;
-    let mut i: usize = 0;
-    while k < n {
-        if i < sets::size(keys[k]) {
+    for k in 0..n {
+        for i in 0..sets::size(keys[k]) {
             let here = chosen_at(
                 versions,
                 masks,
@@ -66,10 +64,6 @@ fn chosen(
                 VersionNumber(i),
             );
             all = sets::union(all, here);
-            i = i + 1;
-        } else {
-            k = k + 1;
-            i = 0;
         }
     }
     all

@@ -19,12 +19,10 @@ fn later_by(versions: &[u64], keys: &[u64], k: Key, i: VersionNumber, set: u64) 
 {
     let key = k.0;
     let count = sets::size(keys[key]);
-    let mut j = i.0 + 1;
-    while j < count {
+    for j in i.0 + 1..count {
         if sets::has(set, state::writer_of(versions[state::PER_KEY * key + j]).0) {
             return true;
         }
-        j = j + 1;
     }
     false
 }
@@ -94,17 +92,11 @@ fn starts(a: CommitNumber, ends: Ends, versions: &[u64], keys: &[u64], n: usize)
     requires { (a.0 < numbers) × (n ≤ max_keys) × VersionsRoom versions.now × KeysRoom keys.now }
     ensures { T result ↔ Starts versions.now keys.now ends n a.0 }
 {
-    let mut k: usize = 0;
-    let mut i: usize = 0;
-    while k < n {
-        if i < sets::size(keys[k]) {
+    for k in 0..n {
+        for i in 0..sets::size(keys[k]) {
             if starts_at(a, ends, versions, keys, Key(k), VersionNumber(i)) {
                 return true;
             }
-            i = i + 1;
-        } else {
-            k = k + 1;
-            i = 0;
         }
     }
     false
@@ -145,12 +137,10 @@ fn precedes_some(a: CommitNumber, set: u64, stored: u64, commits: &[u64]) -> boo
     requires { (a.0 < numbers) × CommitsRoom commits.now }
     ensures { T result ↔ ((b : ℕ) × Precedes commits.now stored set a.0 b) }
 {
-    let mut b: usize = 0;
-    while b < store::Store::NUMBERS {
+    for b in 0..store::Store::NUMBERS {
         if precedes(a, CommitNumber(b), set, stored, commits) {
             return true;
         }
-        b = b + 1;
     }
     false
 }
@@ -196,11 +186,9 @@ pub fn tries(
 {
     let stored = gather::stored(versions, keys, n);
     let mut all = 0u64;
-    let mut a: usize = 0;
-    while a < most {
+    for a in 0..most {
         let linked = links_to(CommitNumber(a), ends, stored, versions, keys, commits, n);
         all = put(all, CommitNumber(a), linked);
-        a = a + 1;
     }
     all
 }

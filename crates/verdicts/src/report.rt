@@ -77,12 +77,10 @@ pub fn note(
     requires { VerdictsRoom verdicts.old × (n ≤ max_keys) × VersionsRoom versions.now × KeysRoom keys.now × (base + n ≤ length views.now) × FreshRoom fresh.now }
     ensures { (s : Store) (u : View) (c : Commit) (values : List ℕ) (fs : Level → Option Failure) → Judging s u c h values versions.now keys.now views.now fresh.now base n → FailingClauses s u c h.wanted.live failing → Live verdicts.old h.wanted.live → KeepsVerdicts fs verdicts.old → KeepsVerdicts (λ l. or_else (fs l) (fails_clauses number s u c (clauses_of l))) verdicts.new }
 {
-    let mut level: usize = 0;
-    while level < crate::LEVELS {
+    for level in 0..crate::LEVELS {
         note_level(
             verdicts, level, failing, number, h, versions, keys, views, base, fresh, n,
         );
-        level = level + 1;
     }
 }
 

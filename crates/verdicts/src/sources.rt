@@ -11,11 +11,9 @@ pub fn written(keys: &[u64], ranks: u64, n: usize) -> u64
     ensures { IsSet result (InKeys keys.now ranks n) }
 {
     let mut all = 0u64;
-    let mut left = state::keys_with(ranks, 1, n);
-    while left != 0 {
-        let k = sets::lowest(left) / 2;
+    for twice in sets::Members(state::keys_with(ranks, 1, n)) {
+        let k = twice / 2;
         all = sets::union(all, keys[state::WRITERS + k]);
-        left = sets::rest(left);
     }
     all
 }

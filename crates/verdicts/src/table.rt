@@ -21,12 +21,10 @@ pub fn live(verdicts: &[u64]) -> u64
     ensures { Live verdicts.now result }
 {
     let mut all = 0u64;
-    let mut level: usize = 0;
-    while level < crate::LEVELS {
+    for level in 0..crate::LEVELS {
         if verdicts[level] == 0 {
             all = sets::union(all, clauses_of(level));
         }
-        level = level + 1;
     }
     all
 }

@@ -10,10 +10,7 @@ use Rattle.operations.specs.PerKey.{WrittenAt}
 use Rattle.operations.proofs.Appended.{WritesPassed}
 use Rattle.operations.proofs.append.Given as goal
 
-abbrev pub invariant-loop-left : goal.invariant-loop-left
-invariant-loop-left l =
-    (k : ℕ) × (k ≤ l.n) × Left l.ranks 1 l.n k l.left × VersionsRoom l.versions × KeysRoom l.keys
+abbrev pub invariant-loop-twice : goal.invariant-loop-twice
+invariant-loop-twice l =
+    (k : ℕ) × (k ≤ l.n) × Left l.ranks 1 l.n k l.twice-iterator.0 × VersionsRoom l.versions × KeysRoom l.keys
     × ((s : Store) (c : Commit) → Appending s c l.initial.versions l.initial.keys l.values l.ranks l.n → WritesPassed s c l.me.0 l.n k l.versions l.keys × IsSet l.earlier (From (WrittenAt s c) k))
-
-abbrev pub decreases-loop-left : goal.decreases-loop-left
-decreases-loop-left l = l.left

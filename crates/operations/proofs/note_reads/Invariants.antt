@@ -13,12 +13,9 @@ use Rattle.operations.specs.PerKey.{ReadAt, LaterAt}
 use Rattle.operations.proofs.Noted.{ReadsPassed}
 use Rattle.operations.proofs.note_reads.Given as goal
 
-abbrev pub invariant-loop-left : goal.invariant-loop-left
-invariant-loop-left l =
-    (k : ℕ) × (k ≤ l.n) × Left l.ranks 0 l.n k l.left × VersionsRoom l.versions
+abbrev pub invariant-loop-twice : goal.invariant-loop-twice
+invariant-loop-twice l =
+    (k : ℕ) × (k ≤ l.n) × Left l.ranks 0 l.n k l.twice-iterator.0 × VersionsRoom l.versions
     × ((s : Store) (u : View) (c : Commit) → Given s u c l.initial.versions l.views l.base l.values l.ranks l.n
     → ((q : Key) → q < k → ¬ T (wrong_at s u c q)) × ReadsPassed s u c l.me.0 l.n k l.versions
     × (KeepsKeys s l.keys → Ordered s → IsSet l.from (From (ReadAt s u c) k) × IsSet l.over (From (LaterAt s u c) k)))
-
-abbrev pub decreases-loop-left : goal.decreases-loop-left
-decreases-loop-left l = l.left

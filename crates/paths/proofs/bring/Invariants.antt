@@ -5,8 +5,5 @@ use Rattle.state.specs.Accesses.{Left}
 use Rattle.paths.specs.Added.{Joined, LeadsOf}
 use Rattle.paths.proofs.bring.Given as goal
 
-abbrev pub invariant-loop-left : goal.invariant-loop-left
-invariant-loop-left l = (k : ℕ) × (k ≤ l.n) × Left l.ranks 0 l.n k l.left × Joined (LeadsOf l.ranks k l.first l.into) l.initial.links l.links
-
-abbrev pub decreases-loop-left : goal.decreases-loop-left
-decreases-loop-left l = l.left
+abbrev pub invariant-loop-twice : goal.invariant-loop-twice
+invariant-loop-twice l = (k : ℕ) × (k ≤ l.n) × Left l.ranks 0 l.n k l.twice-iterator.0 × Joined (LeadsOf l.ranks k l.first l.into) l.initial.links l.links

@@ -6,9 +6,6 @@ use Rattle.state.specs.Keeps.{IsSet}
 use Rattle.paths.specs.Added.{BroughtBelow}
 use Rattle.paths.proofs.brought.Given as goal
 
-abbrev pub invariant-loop-left : goal.invariant-loop-left
-invariant-loop-left l =
-    (k : ℕ) × (k ≤ l.n) × Left l.ranks 1 l.n k l.left × IsSet l.prefix (BroughtBelow 0 l.links l.ranks k) × IsSet l.snapshot (BroughtBelow 1 l.links l.ranks k)
-
-abbrev pub decreases-loop-left : goal.decreases-loop-left
-decreases-loop-left l = l.left
+abbrev pub invariant-loop-twice : goal.invariant-loop-twice
+invariant-loop-twice l =
+    (k : ℕ) × (k ≤ l.n) × Left l.ranks 1 l.n k l.twice-iterator.0 × IsSet l.prefix (BroughtBelow 0 l.links l.ranks k) × IsSet l.snapshot (BroughtBelow 1 l.links l.ranks k)

@@ -1,5 +1,4 @@
 -- `paths::sweep` meets its contract. The loop's invariant: the rows below t are gathered. Assumes nothing.
-use borrow.Author.Rules.{rules}
 use mathlib.Core.Path.{◌≡◌, refl}
 use native.Mathlib.Omega.{arith}
 use Rattle.store.specs.Limits.{numbers}
@@ -7,16 +6,16 @@ use Rattle.paths.proofs.Swept.{sweep-starts, sweep-on}
 use Rattle.paths.proofs.sweep.Goals as goal
 
 pub loop-t-init : goal.loop-t-init
-loop-t-init c = let links = c.args.links.now in (search rules, sweep-starts links 0, sweep-starts links numbers)
+loop-t-init c = let links = c.args.links.now in (sweep-starts links 0, sweep-starts links numbers)
 
 pub loop-t-preserved : goal.loop-t-preserved
 loop-t-preserved c =
     let links = c.args.links.now in
     let l = c.loop-t in
-    (search rules, sweep-on links 0 l.t _ l.invariant.1 _ (omega arith) c.union-prefix.ensures, sweep-on links numbers l.t _ l.invariant.2 _ refl c.union-snapshot.ensures)
+    (sweep-on links 0 l.t _ l.invariant.0 _ (omega arith) c.union-prefix.ensures, sweep-on links numbers l.t _ l.invariant.1 _ refl c.union-snapshot.ensures)
 
 pub returns : goal.returns
 returns c =
     let l = c.loop-t in
     let e : l.t ≡ c.args.n = omega arith in
-    (rw e at l.invariant.1, rw e at l.invariant.2)
+    (rw e at l.invariant.0, rw e at l.invariant.1)

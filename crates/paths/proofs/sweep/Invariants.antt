@@ -1,5 +1,4 @@
 -- `paths::sweep` meets its contract. The loop's invariant: the rows below t are gathered. Assumes nothing.
-use Prim.Native.Nat.{◌-◌, ◌≤◌}
 use Rattle.sets.specs.Set.{below}
 use Rattle.store.specs.Limits.{numbers}
 use Rattle.state.specs.Keeps.{IsSet}
@@ -7,7 +6,4 @@ use Rattle.state.specs.Rows.{InRows}
 use Rattle.paths.proofs.sweep.Given as goal
 
 abbrev pub invariant-loop-t : goal.invariant-loop-t
-invariant-loop-t l = (l.t ≤ l.n) × IsSet l.prefix (InRows l.links 0 (below l.t)) × IsSet l.snapshot (InRows l.links numbers (below l.t))
-
-abbrev pub decreases-loop-t : goal.decreases-loop-t
-decreases-loop-t l = l.n - l.t
+invariant-loop-t l = IsSet l.prefix (InRows l.links 0 (below l.t)) × IsSet l.snapshot (InRows l.links numbers (below l.t))

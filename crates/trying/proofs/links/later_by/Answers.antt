@@ -7,7 +7,7 @@ use Rattle.trying.proofs.Searching.{none_more, member, no_member}
 use Rattle.trying.proofs.links.later_by.Goals as goal
 
 pub loop-j-init : goal.loop-j-init
-loop-j-init c = (omega arith, c.size-count.ensures.0, c.size-count.ensures.1, omega arith, λ m p q. absurd (omega arith))
+loop-j-init c m p q = absurd (omega arith)
 
 pub returns-then-has : goal.returns-then-has
 returns-then-has c =
@@ -18,8 +18,8 @@ pub loop-j-preserved : goal.loop-j-preserved
 loop-j-preserved c =
     let l = c.loop-j in
     let a = c.args in
-    (l.invariant.0, l.invariant.1, l.invariant.2, omega arith, none_more (λ m. T (has a.set (writer_at a.versions.now a.k.0 m))) l.invariant.4 (no_member a.set c.if-has.false c.has.ensures c.writer_of.ensures.0))
+    none_more (λ m. T (has a.set (writer_at a.versions.now a.k.0 m))) l.invariant (no_member a.set c.if-has.false c.has.ensures c.writer_of.ensures.0)
 
 pub returns : goal.returns
 returns c =
-    let l = c.loop-j in (λ t. absurd t, λ (m, p, q, x). absurd (l.invariant.4 m (omega arith) (omega arith) x))
+    let l = c.loop-j in (λ t. absurd t, λ (m, p, q, x). absurd (l.invariant m (omega arith) (omega arith) x))

@@ -7,7 +7,7 @@ use Rattle.trying.proofs.Searching.{none_more}
 use Rattle.trying.proofs.links.precedes_some.Goals as goal
 
 pub loop-b-init : goal.loop-b-init
-loop-b-init c = (omega arith, λ m z l. absurd (omega arith))
+loop-b-init c m z l = absurd (omega arith)
 
 pub returns-then-precedes : goal.returns-then-precedes
 returns-then-precedes c = (λ _. (c.loop-b.b, c.precedes.ensures.0 (true-T _ c.if-precedes.true)), λ _. tt)
@@ -15,8 +15,8 @@ returns-then-precedes c = (λ _. (c.loop-b.b, c.precedes.ensures.0 (true-T _ c.i
 pub loop-b-preserved : goal.loop-b-preserved
 loop-b-preserved c =
     let a = c.args in
-    (omega arith, none_more (λ m. Precedes a.commits.now a.stored a.set a.a.0 m) c.loop-b.invariant.1 (λ p. false-T _ c.if-precedes.false (c.precedes.ensures.1 p)))
+    none_more (λ m. Precedes a.commits.now a.stored a.set a.a.0 m) c.loop-b.invariant (λ p. false-T _ c.if-precedes.false (c.precedes.ensures.1 p))
 
 pub returns : goal.returns
 returns c =
-    (λ t. absurd t, λ (b, p). absurd (c.loop-b.invariant.1 b (omega arith) (omega (arith, has-lt 64 c.args.set b c.ranges.set.fits p.0)) p))
+    (λ t. absurd t, λ (b, p). absurd (c.loop-b.invariant b (omega arith) (omega (arith, has-lt 64 c.args.set b c.ranges.set.fits p.0)) p))

@@ -8,13 +8,13 @@ use Rattle.trying.proofs.Linked.{links-is, tried-none, tried-more}
 use Rattle.trying.proofs.links.tries.Goals as goal
 
 pub loop-a-init : goal.loop-a-init
-loop-a-init c = let a = c.args in (omega arith, c.stored-stored.ensures, tried-none (LinksTo (recorded a.versions.now a.keys.now a.commits.now a.n) a.ends))
+loop-a-init c = let a = c.args in tried-none (LinksTo (recorded a.versions.now a.keys.now a.commits.now a.n) a.ends)
 
 pub loop-a-preserved : goal.loop-a-preserved
 loop-a-preserved c =
     let a = c.args in
     let l = c.loop-a in
-    (omega arith, l.invariant.1, tried-more l.all l.a c.links_to-linked.result l.invariant.2 (both c.links_to-linked.ensures (links-is a.versions.now a.keys.now a.commits.now a.n c.stored-stored.result l.invariant.1 a.ends l.a)) c.put-all.ensures)
+    tried-more l.all l.a c.links_to-linked.result l.invariant (both c.links_to-linked.ensures (links-is a.versions.now a.keys.now a.commits.now a.n c.stored-stored.result c.stored-stored.ensures a.ends l.a)) c.put-all.ensures
 
 pub returns : goal.returns
-returns c = let e : c.loop-a.a ≡ c.args.most = omega arith in rw e at c.loop-a.invariant.2
+returns c = let e : c.loop-a.a ≡ c.args.most = omega arith in rw e at c.loop-a.invariant

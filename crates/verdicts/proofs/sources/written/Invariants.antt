@@ -6,8 +6,5 @@ use Rattle.state.specs.Keeps.{IsSet}
 use Rattle.verdicts.specs.Sources.{InKeys}
 use Rattle.verdicts.proofs.sources.written.Given as goal
 
-abbrev pub invariant-loop-left : goal.invariant-loop-left
-invariant-loop-left l = (k : ℕ) × (k ≤ l.n) × Left l.ranks 1 l.n k l.left × IsSet l.all (InKeys l.keys l.ranks k)
-
-abbrev pub decreases-loop-left : goal.decreases-loop-left
-decreases-loop-left l = l.left
+abbrev pub invariant-loop-twice : goal.invariant-loop-twice
+invariant-loop-twice l = (k : ℕ) × (k ≤ l.n) × Left l.ranks 1 l.n k l.twice-iterator.0 × IsSet l.all (InKeys l.keys l.ranks k)

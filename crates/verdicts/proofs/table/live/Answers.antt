@@ -1,23 +1,20 @@
 -- `verdicts::table::live` meets its contract. The loop's invariant: the set has the clauses of the levels before this one that have not failed. Assumes nothing.
 use native.Mathlib.Omega.{arith}
-use borrow.Author.Rules.{rules}
 use Rattle.verdicts.proofs.Asked.{live-take, live-skip, live_all}
 use Rattle.verdicts.proofs.table.live.Goals as goal
 use Rattle.verdicts.proofs.table.live.Goals.{then-verdicts-level-eq0, else-verdicts-level-eq0}
 
 pub loop-level-init : goal.loop-level-init
-loop-level-init c = (search rules, λ i l. absurd (omega arith))
+loop-level-init c i l = absurd (omega arith)
 
 pub loop-level-preserved : goal.loop-level-preserved
 loop-level-preserved c =
     let v = c.args.verdicts.now in
-    let l = c.loop-level in (
-      omega arith,
-      elim c.if-verdicts-level-eq0.branch [
-        | then-verdicts-level-eq0 w ↦ rw w.all-is (live-take v l.level l.all l.invariant.1 w.clauses_of.ensures w.union-all.ensures)
-        | else-verdicts-level-eq0 w ↦ rw w.all-is (live-skip v l.level l.all l.invariant.1 w.if-verdicts-level-eq0.false)
-      ],
-    )
+    let l = c.loop-level in
+    elim c.if-verdicts-level-eq0.branch [
+      | then-verdicts-level-eq0 w ↦ rw w.all-is (live-take v l.level l.all l.invariant w.clauses_of.ensures w.union-all.ensures)
+      | else-verdicts-level-eq0 w ↦ rw w.all-is (live-skip v l.level l.all l.invariant w.if-verdicts-level-eq0.false)
+    ]
 
 pub returns : goal.returns
-returns c = live_all c.args.verdicts.now c.loop-level.level c.loop-level.all c.loop-level.invariant.1 (omega arith)
+returns c = live_all c.args.verdicts.now c.loop-level.level c.loop-level.all c.loop-level.invariant (omega arith)
