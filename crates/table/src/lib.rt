@@ -16,11 +16,9 @@ fn put_rows(out: &mut [u8], rows: &[u64], n: usize) -> usize
     ensures upper_bound { result ≤ longest_row * n }
 {
     let mut to: usize = 0;
-    let mut i: usize = 0;
-    while i < n {
-        let digits = text::put_field(out, to, b"", rows[i]);
+    for row in &rows[..n] {
+        let digits = text::put_field(out, to, b"", *row);
         to = text::put_bytes(out, digits, b"\n");
-        i = i + 1;
     }
     to
 }

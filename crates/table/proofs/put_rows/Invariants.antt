@@ -1,14 +1,9 @@
 -- `table::put_rows` meets its contract: after i turns the first i rows stand in the buffer. Assumes nothing.
-use Prim.Native.Nat.{◌-◌, ◌*◌, ◌≤◌}
-use mathlib.Core.Path.{◌≡◌}
-use lib.ListN.{length, take}
+use Prim.Native.Nat.{◌*◌, ◌≤◌}
+use lib.ListN.{take}
 use Rattle.text.specs.Put.{Put}
 use Rattle.table.specs.Table.{table_text, longest_row}
 use Rattle.table.proofs.put_rows.Given as goal
 
-abbrev pub invariant-loop-i : goal.invariant-loop-i
-invariant-loop-i l =
-    (l.i ≤ l.n) × (length l.out ≡ length l.initial.out) × (l.to ≤ longest_row * l.i) × Put l.initial.out 0 (table_text (take l.i l.rows)) l.out l.to
-
-abbrev pub decreases-loop-i : goal.decreases-loop-i
-decreases-loop-i l = l.n - l.i
+abbrev pub invariant-loop-row : goal.invariant-loop-row
+invariant-loop-row l = (l.to ≤ longest_row * l.row-index) × Put l.initial.out 0 (table_text (take l.row-index l.row-items)) l.out l.to
