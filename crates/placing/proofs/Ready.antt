@@ -3,6 +3,7 @@ use Prim.Native.Nat.{ℕ, suc, ◌^◌, ◌≤◌, ◌<◌}
 use mathlib.Core.Path.{◌≡◌, sym, ap, ◌∙◌, subst}
 use mathlib.Core.Bool.{not}
 use mathlib.Core.Logic.{◌↔◌, ◌≢◌}
+use mathlib.Core.Option.{some, none}
 use mathlib.Core.List.{List}
 use native.Mathlib.Omega.{arith}
 use lib.Dec.{T, T_not, not_T}
@@ -70,9 +71,9 @@ module _ (rows : List Set) (n : ℕ) (placed : Set) (between : Between n (links_
   })
 
   -- none is left
-  pub left-none : {left : Set} → Left rows n placed left → left ≡ 0 → ◌≡◌ {A = ℕ} 0 (or_zero (lowest_ready n (links_in rows) placed))
-  unfolding lowest_ready or_zero
-  left-none {left} h e = sym (ap or_zero ((least-none (suc n) (ready n (links_in rows) placed)).1 (λ j l t. (empty-is left).0 e j (h.has-ready j t))))
+  pub left-none : {left : Set} → Left rows n placed left → left ≡ 0 → lowest_ready n (links_in rows) placed ≡ none
+  unfolding lowest_ready
+  left-none {left} h e = (least-none (suc n) (ready n (links_in rows) placed)).1 (λ j l t. (empty-is left).0 e j (h.has-ready j t))
 
   -- c is the lowest of them, and w is what it awaits
   module _ {left : Set} (h : Left rows n placed left) (some_left : 0 < left) (word : left < 2 ^ 64) {c w : ℕ} (is-lowest : c ≡ lowest left) (is-awaited : w ≡ waits c) where
@@ -83,11 +84,11 @@ module _ (rows : List Set) (n : ℕ) (placed : Set) (between : Between n (links_
     low = ((is_commit-is n c).0 ((and_is (is_commit n c) (not (has placed c)) same same).0 (h.not-placed c c-left)).0).1
 
     -- nothing: it is ready
-    pub left-found : w ≡ 0 → (c ≡ or_zero (lowest_ready n (links_in rows) placed)) × (c ≤ n)
-    unfolding lowest_ready or_zero
+    pub left-found : w ≡ 0 → (lowest_ready n (links_in rows) placed ≡ some c) × (c ≤ n)
+    unfolding lowest_ready
     left-found e = (
-      sym (ap or_zero (least-found (suc n) (ready n (links_in rows) placed) c (omega (arith, low)) (none-ready c (h.not-placed c c-left) (sym is-awaited ∙ e))
-          (λ j l t. let m = lowest-least left some_left word j (h.has-ready j t) in omega (arith, m)))),
+      least-found (suc n) (ready n (links_in rows) placed) c (omega (arith, low)) (none-ready c (h.not-placed c c-left) (sym is-awaited ∙ e))
+          (λ j l t. let m = lowest-least left some_left word j (h.has-ready j t) in omega (arith, m)),
       low,
     )
 

@@ -2,16 +2,10 @@
 use borrow.Author.Rules.{rules}
 use mathlib.Core.Path.{ap}
 use native.Mathlib.Omega.{arith}
-use lib.ListN.{length, replicate, length-take}
+use lib.ListN.{length, replicate}
 use Rattle.store.specs.Limits.{numbers}
 use Rattle.placing.proofs.Whole.{ends-order, ring_long, ends-ring}
 use Rattle.placing.proofs.order_or_ring.Goals as goal
-
-pub slice_bounds-put_bytes-end : goal.slice_bounds-put_bytes-end
-slice_bounds-put_bytes-end c = omega (arith, length-take c.args.n c.place-placed.new.order)
-
-pub put_bytes-count-requires : goal.put_bytes-count-requires
-put_bytes-count-requires c = omega (arith, length-take c.args.n c.place-placed.new.order)
 
 pub returns-then-left-eq0 : goal.returns-then-left-eq0
 returns-then-left-eq0 c =
