@@ -19,6 +19,7 @@ use Rattle.search.proofs.Tests.{true-T, false-T}
 use Rattle.sets.specs.Set.{Set, has, single, insert}
 use Rattle.sets.proofs.Algebra.{has-single, has-insert-is}
 use Rattle.store.specs.Limits.{max_commits, numbers}
+use Rattle.ordering.specs.Placing.{unplaced}
 use Rattle.ordering.specs.Ring.{member, step_back, as_far_as, walk_back, ring_from}
 use Rattle.ordering.specs.Rows.{links_in}
 
@@ -60,7 +61,7 @@ module _ (way : List ℕ) (from c : ℕ) where
 pub record Walked (rows : List Set) (n : ℕ) (placed : Set) (start : ℕ) (way : List ℕ) (at : ℕ) (passed : Set) (c : ℕ) : Type 0 where
   pub steps : max_commits ≤ at + n
   pub last : get_or way at 0 ≡ c
-  pub small : c < numbers
+  pub waiting : T (unplaced n placed c)
   pub set-of : (a : ℕ) → has passed a ≡ member a (drop at way)
   pub whole : ring_from n (links_in rows) placed start ≡ walk_back (at + n - max_commits) (step_back n (links_in rows) placed) c (drop (suc at) way)
 
@@ -82,13 +83,13 @@ module _ (rows : List Set) (n : ℕ) (placed : Set) (start : ℕ) (few : n ≤ m
   abbrev f : ℕ → ℕ
   f = step_back n (links_in rows) placed
 
-  pub walk_start : (way : List ℕ) → length way ≡ numbers → start < numbers → {passed : Set} → passed ≡ single start
+  pub walk_start : (way : List ℕ) → length way ≡ numbers → T (unplaced n placed start) → {passed : Set} → passed ≡ single start
       → Walked rows n placed start (set way max_commits start) max_commits passed start
   unfolding member
-  walk_start way long low {passed} e = record {
+  walk_start way long waits {passed} e = record {
     steps = omega arith;
     last = here;
-    small = low;
+    waiting = waits;
     set-of = λ a. ap (λ (m : Set). has m a) e ∙ has-single start a ∙ sym (ap (member a) one_entry ∙ or-none (eqb a start));
     whole = ap (walk_back n f start) (sym past) ∙ ap (λ (m : ℕ). walk_back m f start (drop (suc max_commits) (set way max_commits start))) (let e : n ≡ max_commits + n - max_commits = omega arith in e);
   }
@@ -136,13 +137,13 @@ module _ (rows : List Set) (n : ℕ) (placed : Set) (start : ℕ) (few : n ≤ m
           ∙ sym (one-step ∙ walk_end left f c (drop (suc at) way) (true-T _ (sym passed_is ∙ old)))
 
       -- or to one that was not
-      pub walk-next : back < numbers → has passed back ≡ false → {more : Set} → more ≡ insert back passed
+      pub walk-next : T (unplaced n placed back) → has passed back ≡ false → {more : Set} → more ≡ insert back passed
           → Walked rows n placed start (set way (at - 1) back) (at - 1) more back
       unfolding member
-      walk-next low new {more} add = record {
+      walk-next waits new {more} add = record {
         steps = omega arith;
         last = here;
-        small = low;
+        waiting = waits;
         set-of = λ a. ap (λ (m : Set). has m a) add ∙ has-insert-is back passed a ∙ ap (λ (b : Bool). eqb a back || b) (h.set-of a) ∙ sym (ap (member a) from_back);
         whole =
             one-step

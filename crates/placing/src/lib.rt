@@ -5,12 +5,13 @@
 
 ghost use Rattle.std.specs.Prelude.{◌≡◌, ℕ, ◌-◌, ◌≤◌, ◌<◌, length, get_or, take, drop, MatchOption};
 ghost use Rattle.std.proofs.Math.Option.{some, none};
+ghost use Rattle.std.proofs.Math.Dec.{T};
 ghost use Rattle.endian.specs.Endian.{put_at};
 ghost use Rattle.sets.specs.Set.{without};
 ghost use Rattle.store.specs.Limits.{max_commits, numbers};
 ghost use Rattle.ordering.specs.Links.{Between};
 ghost use Rattle.ordering.specs.Shape.{commit_set};
-ghost use Rattle.ordering.specs.Placing.{lowest_ready, lowest_ready_first, placed_with};
+ghost use Rattle.ordering.specs.Placing.{unplaced, lowest_ready, lowest_ready_first, placed_with};
 ghost use Rattle.ordering.specs.Ring.{step_back, as_far_as, ring_from};
 ghost use Rattle.ordering.specs.Judge.{order_or_ring, shown_commits};
 ghost use Rattle.ordering.specs.Rows.{links_in};
@@ -71,17 +72,13 @@ fn place(rows: &[u64], n: usize, order: &mut [u8]) -> u64
     placed
 }
 
-// The lowest-numbered commit that has a link to c and is not placed, or 0.
+// The lowest-numbered commit that has a link to c and is not placed. There is one.
 fn step_back(rows: &[u64], c: usize, placed: u64) -> usize
-    requires { (length rows.now ≡ numbers) × (c < numbers) }
-    ensures { ((n : ℕ) → Between n (links_in rows.now) → result ≡ step_back n (links_in rows.now) placed c) × (result < numbers) }
+    requires { (length rows.now ≡ numbers) × (c < numbers) × (0 < without (get_or rows.now c 0) placed) }
+    ensures { ((n : ℕ) → Between n (links_in rows.now) → (result ≡ step_back n (links_in rows.now) placed c) × T (unplaced n placed result)) × (result < numbers) }
 {
     let awaited = sets::without(rows[c], placed);
-    if awaited == 0 {
-        0
-    } else {
-        sets::lowest(awaited)
-    }
+    sets::lowest(awaited)
 }
 
 // Where the part of `way` from `from` as far as c ends.
@@ -95,10 +92,11 @@ fn as_far_as(way: &[u8], from: usize, c: u8) -> usize
     }
 }
 
-// The ring that is found from `start`, which is not placed, as a part of `way`. The way back is written from the end of `way` on down, so that it stands in
-// the order of its links.
+// Where no commit is ready: the ring that is found from `start`, which is not placed, as a part of `way`. The way back is written from the end of `way` on
+// down, so that it stands in the order of its links.
 fn walk_back(rows: &[u64], n: usize, placed: u64, start: usize, way: &mut [u8]) -> Part
-    requires { (length rows.now ≡ numbers) × (n ≤ max_commits) × Between n (links_in rows.now) × (start < numbers) × (length way.old ≡ numbers) }
+    requires sizes { (length rows.now ≡ numbers) × (n ≤ max_commits) × Between n (links_in rows.now) × (length way.old ≡ numbers) }
+    requires stuck { (lowest_ready n (links_in rows.now) placed ≡ none) × T (unplaced n placed start) }
     ensures within { (result.from ≤ result.to) × (result.to ≤ numbers) × (length way.new ≡ numbers) }
     ensures ring { take (result.to - result.from) (drop result.from way.new) ≡ ring_from n (links_in rows.now) placed start }
 {
