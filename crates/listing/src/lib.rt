@@ -19,10 +19,8 @@ fn put_numbers(out: &mut [u8], at: usize, commits: &[u8], n: usize) -> usize
     ensures upper_bound { result ≤ at + longest_number * n }
 {
     let mut to = at;
-    let mut i: usize = 0;
-    while i < n {
-        to = text::put_field(out, to, b" ", commits[i] as u64);
-        i = i + 1;
+    for commit in &commits[..n] {
+        to = text::put_field(out, to, b" ", *commit as u64);
     }
     to
 }

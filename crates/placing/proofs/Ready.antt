@@ -3,8 +3,10 @@ use Prim.Native.Nat.{ℕ, suc, ◌^◌, ◌≤◌, ◌<◌}
 use mathlib.Core.Path.{◌≡◌, sym, ap, ◌∙◌, subst}
 use mathlib.Core.Bool.{not}
 use mathlib.Core.Logic.{◌↔◌, ◌≢◌}
+use mathlib.Core.Option.{some, none}
 use mathlib.Core.List.{List}
 use native.Mathlib.Omega.{arith}
+use native.Mathlib.Decide.{ℕ_discrete}
 use lib.Dec.{T, T_not, not_T}
 use lib.ListN.{get_or}
 use Rattle.search.specs.Search.{any}
@@ -19,7 +21,7 @@ use Rattle.ordering.specs.Placing.{unplaced, awaited, ready, lowest_ready}
 use Rattle.ordering.specs.Ring.{or_zero, step_back}
 use Rattle.ordering.specs.Rows.{links_in}
 use Rattle.ordering.proofs.Formed.{commit-set-is}
-use Rattle.ordering.proofs.Placing.{is_commit-is, ready-unplaced}
+use Rattle.ordering.proofs.Placing.{is_commit-is, left_is, ready-unplaced}
 
 -- the set of the commits that are not placed
 pub unplaced-is : (n : ℕ) (placed : Set) (c : ℕ) → T (has (without (commit_set n) placed) c) ↔ T (unplaced n placed c)
@@ -70,9 +72,9 @@ module _ (rows : List Set) (n : ℕ) (placed : Set) (between : Between n (links_
   })
 
   -- none is left
-  pub left-none : {left : Set} → Left rows n placed left → left ≡ 0 → ◌≡◌ {A = ℕ} 0 (or_zero (lowest_ready n (links_in rows) placed))
-  unfolding lowest_ready or_zero
-  left-none {left} h e = sym (ap or_zero ((least-none (suc n) (ready n (links_in rows) placed)).1 (λ j l t. (empty-is left).0 e j (h.has-ready j t))))
+  pub left-none : {left : Set} → Left rows n placed left → left ≡ 0 → lowest_ready n (links_in rows) placed ≡ none
+  unfolding lowest_ready
+  left-none {left} h e = (least-none (suc n) (ready n (links_in rows) placed)).1 (λ j l t. (empty-is left).0 e j (h.has-ready j t))
 
   -- c is the lowest of them, and w is what it awaits
   module _ {left : Set} (h : Left rows n placed left) (some_left : 0 < left) (word : left < 2 ^ 64) {c w : ℕ} (is-lowest : c ≡ lowest left) (is-awaited : w ≡ waits c) where
@@ -83,11 +85,11 @@ module _ (rows : List Set) (n : ℕ) (placed : Set) (between : Between n (links_
     low = ((is_commit-is n c).0 ((and_is (is_commit n c) (not (has placed c)) same same).0 (h.not-placed c c-left)).0).1
 
     -- nothing: it is ready
-    pub left-found : w ≡ 0 → (c ≡ or_zero (lowest_ready n (links_in rows) placed)) × (c ≤ n)
-    unfolding lowest_ready or_zero
+    pub left-found : w ≡ 0 → (lowest_ready n (links_in rows) placed ≡ some c) × (c ≤ n)
+    unfolding lowest_ready
     left-found e = (
-      sym (ap or_zero (least-found (suc n) (ready n (links_in rows) placed) c (omega (arith, low)) (none-ready c (h.not-placed c c-left) (sym is-awaited ∙ e))
-          (λ j l t. let m = lowest-least left some_left word j (h.has-ready j t) in omega (arith, m)))),
+      least-found (suc n) (ready n (links_in rows) placed) c (omega (arith, low)) (none-ready c (h.not-placed c c-left) (sym is-awaited ∙ e))
+          (λ j l t. let m = lowest-least left some_left word j (h.has-ready j t) in omega (arith, m)),
       low,
     )
 
@@ -99,15 +101,26 @@ module _ (rows : List Set) (n : ℕ) (placed : Set) (between : Between n (links_
           (h.has-ready a t, λ x. other (is-awaited ∙ ready-none c (subst (λ (y : ℕ). T (ready n (links_in rows) placed y)) (single-only c a x) t)));
     })
 
-  -- ---- one step back, where c awaits w
+  -- ---- one step back
 
-  pub back_none : (c : ℕ) {w : ℕ} → w ≡ waits c → w ≡ 0 → ◌≡◌ {A = ℕ} 0 (step_back n (links_in rows) placed c)
-  unfolding or_zero
-  back_none c e z = sym (ap or_zero ((least-none (suc n) (awaited (links_in rows) placed c)).1 (λ a l t. (empty-is (waits c)).0 (sym e ∙ z) a ((waits-is c a).1 t))))
+  -- a commit that is left awaits another where none is ready
+  pub awaits : lowest_ready n (links_in rows) placed ≡ none → (c : ℕ) → T (unplaced n placed c) → 0 < waits c
+  unfolding lowest_ready
+  awaits stuck c t =
+      let l = ((left_is n placed c).0 t).0.1 in
+      elim (ℕ_discrete (waits c) 0) [
+        | yes e ↦ absurd ((least-none (suc n) (ready n (links_in rows) placed)).0 stuck c (omega (arith, l)) (none-ready c t e))
+        | no other ↦ omega arith
+      ]
 
-  pub back-lowest : (c : ℕ) {w back : ℕ} → w ≡ waits c → 0 < w → w < 2 ^ 64 → back ≡ lowest w → back ≡ step_back n (links_in rows) placed c
+  -- where c awaits w
+  pub back-lowest : (c : ℕ) {w back : ℕ} → w ≡ waits c → 0 < w → w < 2 ^ 64 → back ≡ lowest w
+      → (back ≡ step_back n (links_in rows) placed c) × T (unplaced n placed back)
   unfolding or_zero
   back-lowest c {w} {back} e p word is-lowest =
       let here = (waits-is c back).0 (subst (λ (m : Set). T (has m back)) e (subst (λ (x : ℕ). T (has w x)) (sym is-lowest) (has-lowest w p word))) in
-      sym (ap or_zero (least-found (suc n) (awaited (links_in rows) placed c) back (awaited-low c back here) here
-      (λ j l t. let m = lowest-least w p word j (subst (λ (x : Set). T (has x j)) (sym e) ((waits-is c j).1 t)) in omega (arith, m))))
+      let parts = (and_is (links_in rows back c) (not (has placed back)) same (not_is (has placed back) same)).0 here in (
+        sym (ap or_zero (least-found (suc n) (awaited (links_in rows) placed c) back (awaited-low c back here) here
+            (λ j l t. let m = lowest-least w p word j (subst (λ (x : Set). T (has x j)) (sym e) ((waits-is c j).1 t)) in omega (arith, m)))),
+        (left_is n placed back).1 ((between back c parts.0).0, parts.1),
+      )

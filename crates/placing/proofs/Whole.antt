@@ -17,7 +17,7 @@ use Rattle.text.specs.Put.{Put}
 use Rattle.text.proofs.Put.{put-start}
 use Rattle.ordering.specs.Links.{Between}
 use Rattle.ordering.specs.Shape.{commit_set}
-use Rattle.ordering.specs.Placing.{unplaced, lowest_ready_first, placed_with}
+use Rattle.ordering.specs.Placing.{unplaced, ready, lowest_ready, lowest_ready_first, placed_with}
 use Rattle.ordering.specs.Ring.{ring_from}
 use Rattle.ordering.specs.Judge as Judge
 use Rattle.ordering.specs.Judge.{order_unless, order_or_ring, shown_commits}
@@ -76,6 +76,15 @@ module _ (rows : List Set) (n : ℕ) (between : Between n (links_in rows)) {plac
   module _ (some_left : 0 < left) (word : left < 2 ^ 64) {start : ℕ} (is-lowest : start ≡ lowest left) where
     start_left : T (has left start)
     start_left = subst (λ (x : ℕ). T (has left x)) (sym is-lowest) (has-lowest left some_left word)
+
+    -- it is not placed, and no commit is ready
+    pub walk-stuck : (lowest_ready n (links_in rows) placed ≡ none) × T (unplaced n placed start)
+    unfolding lowest_ready
+    walk-stuck =
+        let no-more = none-ready n (links_in rows) between in (
+          ap (λ (p : Set). least (suc n) (ready n (links_in rows) p)) all ∙ (least-none (suc n) (ready n (links_in rows) end)).1 (λ c l. no-more c),
+          subst (λ (p : Set). T (unplaced n p start)) (sym all) (left-has start start_left),
+        )
 
     start-low : start < suc n
     start-low = let c = ((left_is n end start).0 (left-has start start_left)).0.1 in omega (arith, c)

@@ -3,14 +3,16 @@
 // again.
 #![tactic(auto)]
 
-ghost use Rattle.std.specs.Prelude.{◌≡◌, ℕ, ◌-◌, ◌≤◌, ◌<◌, length, get_or, take, drop};
+ghost use Rattle.std.specs.Prelude.{◌≡◌, ℕ, ◌-◌, ◌≤◌, ◌<◌, length, get_or, take, drop, MatchOption};
+ghost use Rattle.std.proofs.Math.Option.{some, none};
+ghost use Rattle.std.proofs.Math.Dec.{T};
 ghost use Rattle.endian.specs.Endian.{put_at};
 ghost use Rattle.sets.specs.Set.{without};
 ghost use Rattle.store.specs.Limits.{max_commits, numbers};
 ghost use Rattle.ordering.specs.Links.{Between};
 ghost use Rattle.ordering.specs.Shape.{commit_set};
-ghost use Rattle.ordering.specs.Placing.{lowest_ready, lowest_ready_first, placed_with};
-ghost use Rattle.ordering.specs.Ring.{or_zero, step_back, as_far_as, ring_from};
+ghost use Rattle.ordering.specs.Placing.{unplaced, lowest_ready, lowest_ready_first, placed_with};
+ghost use Rattle.ordering.specs.Ring.{step_back, as_far_as, ring_from};
 ghost use Rattle.ordering.specs.Judge.{order_or_ring, shown_commits};
 ghost use Rattle.ordering.specs.Rows.{links_in};
 ghost use Rattle.placing.specs.Answers.{shown_as};
@@ -37,20 +39,20 @@ fn unplaced(n: usize, placed: u64) -> u64
     sets::without(sets::without(sets::up_to(n), 1), placed)
 }
 
-// The lowest-numbered ready commit, or 0.
-fn lowest_ready(rows: &[u64], n: usize, placed: u64) -> usize
+// The lowest-numbered ready commit.
+fn lowest_ready(rows: &[u64], n: usize, placed: u64) -> Option<usize>
     requires { (length rows.now ≡ numbers) × (n ≤ max_commits) × Between n (links_in rows.now) }
-    ensures { (result ≡ or_zero (lowest_ready n (links_in rows.now) placed)) × (result ≤ n) }
+    ensures { MatchOption result (lowest_ready n (links_in rows.now) placed ≡ none) (λ c. (lowest_ready n (links_in rows.now) placed ≡ some c) × (c ≤ n)) }
 {
     let mut left = unplaced(n, placed);
     while left != 0 {
         let c = sets::lowest(left);
         if sets::without(rows[c], placed) == 0 {
-            return c;
+            return Some(c);
         }
         left = sets::rest(left);
     }
-    0
+    None
 }
 
 // Each time the lowest-numbered ready commit, one behind the other at the start of `order`: the set of those that are placed in the end.
@@ -60,30 +62,23 @@ fn place(rows: &[u64], n: usize, order: &mut [u8]) -> u64
     ensures written { order.new ≡ put_at order.old 0 (lowest_ready_first n (links_in rows.now)) }
 {
     let mut placed = 0u64;
-    let mut i: usize = 0;
-    while i < n {
-        let c = lowest_ready(rows, n, placed);
-        if c == 0 {
+    for slot in order[..n].iter_mut() {
+        let Some(c) = lowest_ready(rows, n, placed) else {
             return placed;
-        }
-        order[i] = c as u8;
+        };
+        *slot = c as u8;
         placed = sets::insert(placed, c);
-        i = i + 1;
     }
     placed
 }
 
-// The lowest-numbered commit that has a link to c and is not placed, or 0.
+// The lowest-numbered commit that has a link to c and is not placed. There is one.
 fn step_back(rows: &[u64], c: usize, placed: u64) -> usize
-    requires { (length rows.now ≡ numbers) × (c < numbers) }
-    ensures { ((n : ℕ) → Between n (links_in rows.now) → result ≡ step_back n (links_in rows.now) placed c) × (result < numbers) }
+    requires { (length rows.now ≡ numbers) × (c < numbers) × (0 < without (get_or rows.now c 0) placed) }
+    ensures { ((n : ℕ) → Between n (links_in rows.now) → (result ≡ step_back n (links_in rows.now) placed c) × T (unplaced n placed result)) × (result < numbers) }
 {
     let awaited = sets::without(rows[c], placed);
-    if awaited == 0 {
-        0
-    } else {
-        sets::lowest(awaited)
-    }
+    sets::lowest(awaited)
 }
 
 // Where the part of `way` from `from` as far as c ends.
@@ -91,42 +86,37 @@ fn as_far_as(way: &[u8], from: usize, c: u8) -> usize
     requires { from ≤ length way.now }
     ensures { (from ≤ result) × (result ≤ length way.now) × (take (result - from) (drop from way.now) ≡ as_far_as c (drop from way.now)) }
 {
-    let mut to = from;
-    while to < way.len() {
-        if way[to] == c {
-            return to + 1;
-        }
-        to = to + 1;
+    match way[from..].iter().position(|x| *x == c) {
+        Some(i) => from + i + 1,
+        None => way.len(),
     }
-    to
 }
 
-// The ring that is found from `start`, which is not placed, as a part of `way`. The way back is written from the end of `way` on down, so that it stands in
-// the order of its links.
+// Where no commit is ready: the ring that is found from `start`, which is not placed, as a part of `way`. The way back is written from the end of `way` on
+// down, so that it stands in the order of its links.
 fn walk_back(rows: &[u64], n: usize, placed: u64, start: usize, way: &mut [u8]) -> Part
-    requires { (length rows.now ≡ numbers) × (n ≤ max_commits) × Between n (links_in rows.now) × (start < numbers) × (length way.old ≡ numbers) }
+    requires sizes { (length rows.now ≡ numbers) × (n ≤ max_commits) × Between n (links_in rows.now) × (length way.old ≡ numbers) }
+    requires stuck { (lowest_ready n (links_in rows.now) placed ≡ none) × T (unplaced n placed start) }
     ensures within { (result.from ≤ result.to) × (result.to ≤ numbers) × (length way.new ≡ numbers) }
     ensures ring { take (result.to - result.from) (drop result.from way.new) ≡ ring_from n (links_in rows.now) placed start }
 {
-    let mut at = store::Store::COMMITS;
-    way[at] = start as u8;
+    let last = store::Store::COMMITS;
+    way[last] = start as u8;
     let mut passed = sets::single(start);
     let mut c = start;
-    let mut left = n;
-    while left != 0 {
+    for at in (last - n..last).rev() {
         let back = step_back(rows, c, placed);
         if sets::has(passed, back) {
-            let to = as_far_as(way, at, back as u8);
-            return Part { from: at, to: to };
+            let from = at + 1;
+            let to = as_far_as(way, from, back as u8);
+            return Part { from, to };
         }
-        at = at - 1;
         way[at] = back as u8;
         passed = sets::insert(passed, back);
         c = back;
-        left = left - 1;
     }
     Part {
-        from: at,
+        from: last - n,
         to: store::Store::NUMBERS,
     }
 }

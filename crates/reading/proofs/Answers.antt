@@ -1,6 +1,6 @@
 -- The answer of a test as the fact that it tests. Assumes nothing.
 use Prim.Native.Nat.{ℕ}
-use mathlib.Core.Path.{◌≡◌, refl, sym, ◌∙◌}
+use mathlib.Core.Path.{◌≡◌, sym, ◌∙◌}
 use mathlib.Core.Bool.{Bool, true, false, false≢true}
 use mathlib.Core.Logic.{◌↔◌}
 use lib.Dec.{eqb}
@@ -9,10 +9,6 @@ use borrow.Author.Tests.{eqb-true, eq-eqb}
 -- "no", the fact not being so
 pub refused : {A : Type 0} → ¬ A → (false ≡ true) ↔ A
 refused n = (λ e. absurd (false≢true e), λ a. absurd (n a))
-
--- "yes", the fact being so
-pub passed : {A : Type 0} → A → (true ≡ true) ↔ A
-passed a = (λ e. a, λ _. refl)
 
 -- the answer of a comparison
 pub compared : {A : Type 0} (m n : ℕ) → (m ≡ n) ↔ A → (eqb m n ≡ true) ↔ A

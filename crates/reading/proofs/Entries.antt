@@ -1,18 +1,15 @@
 -- The places of the entries of an image, one behind the other, and a pass over them. Assumes nothing.
 use Prim.Native.Nat.{ℕ, zero, suc, ◌+◌, ◌-◌, ◌*◌, ◌≤◌, ◌<◌}
-use mathlib.Core.Path.{◌≡◌, sym, ap, ◌∙◌}
+use mathlib.Core.Path.{◌≡◌, ap}
 use native.Mathlib.Omega.{arith}
-use native.Mathlib.Nat.{mul-zero, mul-suc, mul-le-mul_left}
+use native.Mathlib.Nat.{mul-suc}
 use mathlib.Core.Logic.{◌↔◌}
 use mathlib.Core.List.{List}
 use native.Mathlib.Decide.{ℕ_discrete}
 use Rattle.endian.specs.Endian.{le_at}
 use Rattle.endian.proofs.Laws.{le_at-add}
 use Rattle.store.specs.Limits.{max_clients}
-use Rattle.reading.specs.Parts.{entry_place, client_at, session_at, NewEntry, EntryFits}
-
-pub entry_first : (step : ℕ) → 8 ≡ entry_place step 1
-entry_first step = omega (arith, mul-zero step)
+use Rattle.reading.specs.Parts.{entry_place, NewEntry, EntryFits}
 
 pub entry_next : (step t : ℕ) → 0 < t → entry_place step t + step ≡ entry_place step (t + 1)
 entry_next step zero h = absurd (omega arith)
@@ -23,18 +20,6 @@ entry_next step (suc t) h =
     let r : entry_place step (suc t) ≡ 8 + step * t = ap (λ (x : ℕ). 8 + step * x) p in
     omega (arith, q, r, mul-suc step t)
 
--- an earlier one stands before a later one
-pub entry-mono : (step a t : ℕ) → a ≤ t → entry_place step a ≤ entry_place step t
-entry-mono step a t h = let l : step * (a - 1) ≤ step * (t - 1) = mul-le-mul_left step (omega arith) in omega arith
-
--- one of n ends where they end, or before
-pub entry-within : (step t n : ℕ) → 0 < t → t ≤ n → entry_place step t + step ≤ 8 + step * n
-entry-within step t n h l =
-    let m = entry-mono step (t + 1) (n + 1) (omega arith) in
-    let e : n + 1 - 1 ≡ n = omega arith in
-    let q : entry_place step (n + 1) ≡ 8 + step * n = ap (λ (x : ℕ). 8 + step * x) e in
-    omega (arith, entry_next step t h, m, q)
-
 -- ---- a pass over the entries before one
 
 -- the entry at a place has the client and the number
@@ -44,30 +29,6 @@ Bears b place client session = (le_at b place 1 ≡ client) × (le_at b (place +
 -- none of those before entry a has
 abbrev pub NoneBears : List ℕ → ℕ → ℕ → ℕ → ℕ → Type 0
 NoneBears b step a client session = (j : ℕ) → 0 < j → j < a → ¬ Bears b (entry_place step j) client session
-
-pub bears-more : (b : List ℕ) (step a : ℕ) {place client session : ℕ} → place ≡ entry_place step a → ¬ Bears b place client session
-    → NoneBears b step a client session → NoneBears b step (a + 1) client session
-bears-more b step a {place} {client} {session} e here before j h l = go (ℕ_discrete j a)
-  where
-    go : Dec (j ≡ a) → ¬ Bears b (entry_place step j) client session
-    go (yes q) x = here (rw (e, ← q) x)
-    go (no q) x = before j h (omega arith) x
-
--- the client and the number being those of entry t, which stands at `at`
-module _ (b : List ℕ) (step t : ℕ) {at client session : ℕ} (e : at ≡ entry_place step t) (c : client ≡ le_at b at 1) (n : session ≡ le_at b (at + 4) 4) where
-  own-client : client ≡ client_at b step t
-  own-client = c ∙ ap (λ (p : ℕ). le_at b p 1) e
-
-  own-session : session ≡ session_at b step t
-  own-session = n ∙ ap (λ (p : ℕ). le_at b (p + 4) 4) e
-
-  pub bears-new : NoneBears b step t client session → NewEntry b step t
-  bears-new h a p l x = h a p l (x.0 ∙ sym own-client, x.1 ∙ sym own-session)
-
-  -- one that has them
-  pub bears-old : (a : ℕ) {place : ℕ} → 0 < a → a < t → place ≡ entry_place step a → Bears b place client session → ¬ NewEntry b step t
-  bears-old a p l q x h =
-      h a p l (ap (λ (y : ℕ). le_at b y 1) (sym q) ∙ x.0 ∙ own-client, ap (λ (y : ℕ). le_at b (y + 4) 4) (sym q) ∙ x.1 ∙ own-session)
 
 -- ---- an entry
 

@@ -1,7 +1,7 @@
 -- A key of an image, and a pass over the keys. Assumes nothing.
 use Prim.Native.Nat.{ℕ, zero, suc, ◌+◌, ◌*◌, ◌≤◌, ◌<◌}
-use mathlib.Core.Path.{◌≡◌, refl, sym, ap, ap₂, ◌∙◌, subst, subst₂}
-use mathlib.Core.Logic.{◌↔◌, inl, inr, ◌≢◌}
+use mathlib.Core.Path.{◌≡◌, refl, sym, ap, ap₂, ◌∙◌, subst}
+use mathlib.Core.Logic.{◌↔◌}
 use mathlib.Core.List.{List}
 use native.Mathlib.Omega.{arith}
 use native.Mathlib.Decide.{ℕ_discrete}
@@ -9,7 +9,7 @@ use lib.ListN.{length}
 use Rattle.endian.specs.Endian.{le_at}
 use Rattle.endian.proofs.Laws.{le_at-add}
 use Rattle.store.specs.Reading.{image_keys, image_commits, commit_size, key_place}
-use Rattle.reading.specs.Parts.{key_end, EntryFits, VersionsFit, KeyFits, EndOf, BodyFits}
+use Rattle.reading.specs.Parts.{key_end, VersionsFit, KeyFits, BodyFits}
 
 -- ---- one key
 
@@ -38,10 +38,6 @@ module _ (b : List ℕ) (at commits : ℕ) where
   pub key-opens : KeyFits b at commits → le_at b (at + 4) 8 ≡ 0
   key-opens f = (opening-zero b at).1 (f.first-value, f.first-writer, f.versions.spare 0 f.some-version)
 
--- the same place in other words
-pub key-there : (b : List ℕ) (commits : ℕ) {at place : ℕ} → at ≡ place → KeyFits b place commits → KeyFits b at commits
-key-there b commits e f = subst (λ (p : ℕ). KeyFits b p commits) (sym e) f
-
 -- ---- the keys in turn
 
 pub place-next : (b : List ℕ) (k : ℕ) → key_place b (suc k) ≡ key_end b (key_place b k)
@@ -66,38 +62,12 @@ keys-more b commits k e here before j l = go (ℕ_discrete j k)
     go (yes q) = subst (λ (p : ℕ). KeyFits b p commits) (e ∙ ap (key_place b) (sym q)) here
     go (no q) = before j (omega arith)
 
--- an answer of where a key ends that is not 0, and one that is
-pub end-some : (b : List ℕ) (at commits : ℕ) {r : ℕ} → EndOf b at commits r → r ≢ 0 → (r ≡ key_end b at) × KeyFits b at commits
-end-some b at commits (inl x) n = x
-end-some b at commits (inr x) n = absurd (n x.0)
-
-pub end_none : (b : List ℕ) (at commits : ℕ) {r : ℕ} → EndOf b at commits r → r ≡ 0 → ¬ KeyFits b at commits
-end_none b at commits (inl x) e f = let z = x.0 in absurd (omega arith)
-end_none b at commits (inr x) e f = x.1 f
-
 -- ---- the entries and the keys
 
 module _ (b : List ℕ) (n commits : ℕ) (k : n ≡ image_keys b) (c : commits ≡ image_commits b) where
   pub start_is : 8 + (8 + 8 * n) * commits ≡ key_place b 0
   unfolding key_place
   start_is = ap₂ (λ (x y : ℕ). 8 + commit_size x * y) k c
-
-  abbrev Entries : ℕ → ℕ → Type 0
-  Entries keys most = (t : ℕ) → 0 < t → t ≤ most → EntryFits b (commit_size keys) t
-
-  abbrev Keys : ℕ → ℕ → Type 0
-  Keys keys most = ((j : ℕ) → j < keys → KeyFits b (key_place b j) most) × (key_place b keys ≡ length b)
-
-  pub body-fits : Entries n commits → Keys n commits → BodyFits b
-  body-fits e h =
-      let f = subst₂ Keys k c h in
-      record { entries = subst₂ Entries k c e; keys = f.0; ends = f.1 }
-
-  pub body-entries : BodyFits b → Entries n commits
-  body-entries h = subst₂ Entries (sym k) (sym c) h.entries
-
-  pub body-keys : BodyFits b → Keys n commits
-  body-keys h = subst₂ Keys (sym k) (sym c) (h.keys, h.ends)
 
   -- the entries are all there
   pub body-long : BodyFits b → 8 + (8 + 8 * n) * commits ≤ length b

@@ -1,41 +1,24 @@
 -- A pass over the versions of a key, and over the keys, for WR, WW and RW. Assumes nothing.
-use Prim.Native.Nat.{ℕ, zero, suc, ◌+◌, ◌*◌, ◌<◌}
+use Prim.Native.Nat.{ℕ, ◌+◌, ◌<◌}
 use mathlib.Core.Path.{◌≡◌, sym, ap, ◌∙◌, subst}
 use mathlib.Core.Logic.{◌⊎◌, inl, inr, ◌↔◌, ◌≢◌}
 use mathlib.Core.List.{List}
 use native.Mathlib.Omega.{arith}
 use native.Mathlib.Decide.{ℕ_discrete}
 use lib.Dec.{T}
-use lib.ListN.{length}
 use Rattle.sets.specs.Set.{Set, has, single, union, without}
 use Rattle.sets.proofs.Laws.{single-has, single-only}
 use Rattle.sets.proofs.Algebra.{without_is}
 use Rattle.endian.specs.Endian.{le_at}
-use Rattle.store.specs.Limits.{numbers}
 use Rattle.store.specs.Store.{CommitNumber}
 use Rattle.store.specs.Reading.{key_place}
 use Rattle.reading.specs.Parts.{writer_at, readers_at}
 use Rattle.reading.specs.Gains.{Gains, Earlier, VersionLinks, KeyLinks, versions_in}
-use Rattle.reading.proofs.Rows.{union-is, gains-none, gains-as, gains-then}
+use Rattle.reading.proofs.Rows.{union-is, gains-as, gains-then}
 
 -- ---- the versions of a key
 
 module _ (b : List ℕ) (base : ℕ) where
-  -- before version 1 there are the readers of version 0
-  pub earlier-first : {m : ℕ} → m ≡ le_at b (base + 8) 8 → (a : ℕ) → T (has m a) ↔ Earlier b base 1 a
-  earlier-first {m} e a = (λ t. (0, omega arith, inl (subst (λ (x : ℕ). T (has x a)) at t)), out)
-    where
-      place : base + 8 ≡ base + 16 * 0 + 8
-      place = omega arith
-
-      at : m ≡ readers_at b base 0
-      at = e ∙ ap (λ (p : ℕ). le_at b p 8) place
-
-      out : Earlier b base 1 a → T (has m a)
-      out (zero, l, inl t) = subst (λ (x : ℕ). T (has x a)) (sym at) t
-      out (zero, l, inr (p, q)) = absurd (omega arith)
-      out (suc j, l, x) = absurd (omega arith)
-
   pub earlier_more : (i m : ℕ) {readers writer n k : ℕ} → 0 < i → readers ≡ readers_at b base i → writer ≡ writer_at b base i → n ≡ union m readers → k ≡ union n (single writer)
       → ((a : ℕ) → T (has m a) ↔ Earlier b base i a) → (a : ℕ) → T (has k a) ↔ Earlier b base (i + 1) a
   earlier_more i m {readers} {writer} {n} {k} p r w e f h a = (λ t. out ((union-is n (single writer) a).0 (rw f at t)), λ (j, l, x). subst (λ (y : ℕ). T (has y a)) (sym f) (into j l x (ℕ_discrete j i)))
@@ -58,9 +41,6 @@ module _ (b : List ℕ) (base : ℕ) where
       into : (j : ℕ) → j < i + 1 → T (has (readers_at b base j) a) ⊎ ((0 < j) × (a ≡ writer_at b base j)) → Dec (j ≡ i) → T (has (union n (single writer)) a)
       into j l x (yes q) = last (subst (λ (y : ℕ). T (has (readers_at b base y) a) ⊎ ((0 < y) × (a ≡ writer_at b base y))) q x)
       into j l x (no q) = low (inl ((h a).1 (j, omega arith, x)))
-
-  pub links-first : (rows : List Set) → length rows ≡ numbers → Gains rows rows (KeyLinks b base 1)
-  links-first rows room = gains-none rows room (λ a c (i, p, l, x). absurd (omega arith))
 
   pub links-more : (i m : ℕ) {readers writer own from : ℕ} {rows more next last : List Set} → 0 < i → readers ≡ readers_at b base i → writer ≡ writer_at b base i
       → own ≡ single writer → from ≡ without m own → ((a : ℕ) → T (has m a) ↔ Earlier b base i a) → Gains rows more (KeyLinks b base i)
@@ -96,20 +76,11 @@ module _ (b : List ℕ) (base : ℕ) where
       into a c j q l z (yes e) = here a c (subst (λ (k : ℕ). VersionLinks b base k a c) e z)
       into a c j q l z (no e) = inl (inl (j, q, omega arith, z))
 
-  pub links-done : (i n : ℕ) {rows more : List Set} → i ≡ n → Gains rows more (KeyLinks b base i) → Gains rows more (KeyLinks b base n)
-  links-done i n {rows} {more} e g = subst (λ (k : ℕ). Gains rows more (KeyLinks b base k)) e g
-
 -- ---- the keys
 
 -- the links of the keys before key n
 abbrev pub KeysLinks : List ℕ → ℕ → CommitNumber → CommitNumber → Type 0
 KeysLinks b n a c = (k : ℕ) × (k < n) × KeyLinks b (key_place b k + 4) (versions_in b k) a c
-
-pub keys-done : (b : List ℕ) (k n : ℕ) {rows more : List Set} → k ≡ n → Gains rows more (KeysLinks b k) → Gains rows more (KeysLinks b n)
-keys-done b k n {rows} {more} e g = subst (λ (j : ℕ). Gains rows more (KeysLinks b j)) e g
-
-pub keys_none : (b : List ℕ) (rows : List Set) → length rows ≡ numbers → Gains rows rows (KeysLinks b 0)
-keys_none b rows room = gains-none rows room (λ a c (k, l, x). absurd (omega arith))
 
 pub keys-more : (b : List ℕ) (k : ℕ) {at count : ℕ} {rows more last : List Set} → at ≡ key_place b k → count ≡ le_at b at 4
     → Gains rows more (KeysLinks b k) → Gains more last (KeyLinks b (at + 4) count) → Gains rows last (KeysLinks b (k + 1))

@@ -1,5 +1,5 @@
 -- Rows of links that gain links, one row at a time and one part of an image after the other. Assumes nothing.
-use Prim.Native.Nat.{ℕ, ◌+◌, ◌^◌, ◌<◌}
+use Prim.Native.Nat.{ℕ, ◌^◌, ◌<◌}
 use mathlib.Core.Path.{◌≡◌, refl, sym, ap, ◌∙◌, subst}
 use mathlib.Core.Logic.{◌⊎◌, inl, inr, ◌↔◌, ◌≢◌}
 use mathlib.Core.List.{List}
@@ -26,13 +26,6 @@ union-is m n i = rw (has-union m n i) (or_is (has m i) (has n i) same same)
 -- the first n rows are empty
 abbrev pub Cleared : List Set → ℕ → Type 0
 Cleared rows n = (j : ℕ) → j < n → get_or rows j 0 ≡ 0
-
-pub cleared_more : (rows : List Set) (n : ℕ) {more : List Set} → n < length rows → more ≡ set rows n 0 → Cleared rows n → Cleared more (n + 1)
-cleared_more rows n {more} room e h j l = go (ℕ_discrete j n)
-  where
-    go : Dec (j ≡ n) → get_or more j 0 ≡ 0
-    go (yes q) = rw (e, q) (get_or-set_same rows n 0 0 room)
-    go (no q) = rw e (get_or-set_other rows n j 0 0 q ∙ h j (omega arith))
 
 pub cleared-all : (rows : List Set) → length rows ≡ numbers → Cleared rows numbers → (a c : CommitNumber) → ¬ T (links_in rows a c)
 cleared-all rows room h a c t = has-none a (subst (λ (m : ℕ). T (has m a)) (go (dec_lt c numbers)) t)

@@ -1,29 +1,23 @@
 -- A pass over the entries for those that precede one in its session, and over the entries for SO. Assumes nothing.
-use Prim.Native.Nat.{ℕ, ◌+◌, ◌≤◌, ◌<◌}
+use Prim.Native.Nat.{ℕ, ◌+◌, ◌<◌}
 use mathlib.Core.Path.{◌≡◌, sym, ap, ◌∙◌, subst}
 use mathlib.Core.Logic.{◌⊎◌, inl, inr, ◌↔◌}
 use mathlib.Core.List.{List}
 use native.Mathlib.Omega.{arith}
 use native.Mathlib.Decide.{ℕ_discrete}
 use lib.Dec.{T}
-use lib.ListN.{length}
 use Rattle.sets.specs.Set.{Set, has, insert}
-use Rattle.sets.proofs.Laws.{has-none, insert-has, has-insert, insert-self}
+use Rattle.sets.proofs.Laws.{insert-has, has-insert, insert-self}
 use Rattle.endian.specs.Endian.{le_at}
-use Rattle.store.specs.Limits.{numbers}
 use Rattle.store.specs.Store.{CommitNumber}
 use Rattle.reading.specs.Parts.{entry_place, client_at, session_at}
-use Rattle.reading.specs.Gains.{Precedes, InSession, Gains}
-use Rattle.reading.proofs.Rows.{gains-none, gains-as, gains-then}
+use Rattle.reading.specs.Gains.{Precedes, InSession}
 
 -- the entries before entry a that precede
 abbrev pub FoundBelow : List ℕ → ℕ → ℕ → ℕ → ℕ → Set → Type 0
 FoundBelow b step client session a found = (x : ℕ) → T (has found x) ↔ ((0 < x) × (x < a) × Precedes b (entry_place step x) client session)
 
 module _ (b : List ℕ) (step client session : ℕ) where
-  pub found_none : FoundBelow b step client session 1 0
-  found_none x = (λ t. absurd (has-none x t), λ (p, l, h). absurd (omega arith))
-
   module _ (a place found : ℕ) (e : place ≡ entry_place step a) (h : FoundBelow b step client session a found) where
     pub found_take : {more : ℕ} → 0 < a → Precedes b place client session → more ≡ insert a found → FoundBelow b step client session (a + 1) more
     found_take {more} p here q x = (λ t. out (insert-has a found x (subst (λ (m : ℕ). T (has m x)) q t)), λ y. subst (λ (m : ℕ). T (has m x)) (sym q) (into y (ℕ_discrete x a)))
@@ -62,22 +56,3 @@ found-done b step count t a found {at} {client} {session} e c n l h x = (
 -- the links to the entries before entry t
 abbrev pub SessionLinks : List ℕ → ℕ → ℕ → ℕ → CommitNumber → CommitNumber → Type 0
 SessionLinks b step count t a c = (0 < c) × (c < t) × InSession b step count a c
-
-pub sessions-more : (b : List ℕ) (step count t found : ℕ) {rows more last : List Set} → 0 < t → ((x : ℕ) → T (has found x) ↔ InSession b step count x t)
-    → Gains rows more (SessionLinks b step count t) → Gains more last (λ (a c : CommitNumber). (c ≡ t) × T (has found a)) → Gains rows last (SessionLinks b step count (t + 1))
-sessions-more b step count t found p f g h = gains-as (gains-then g h) (λ a c. (out a c, λ x. into a c x (ℕ_discrete c t)))
-  where
-    out : (a c : ℕ) → SessionLinks b step count t a c ⊎ ((c ≡ t) × T (has found a)) → SessionLinks b step count (t + 1) a c
-    out a c (inl (u, v, w)) = (u, omega arith, w)
-    out a c (inr (q, y)) = (omega arith, omega arith, subst (λ (z : ℕ). InSession b step count a z) (sym q) ((f a).0 y))
-
-    into : (a c : ℕ) → SessionLinks b step count (t + 1) a c → Dec (c ≡ t) → SessionLinks b step count t a c ⊎ ((c ≡ t) × T (has found a))
-    into a c (u, v, w) (yes q) = inr (q, (f a).1 (subst (λ (z : ℕ). InSession b step count a z) q w))
-    into a c (u, v, w) (no q) = inl (u, omega arith, w)
-
-pub sessions-none : (b : List ℕ) (step count : ℕ) (rows : List Set) → length rows ≡ numbers → Gains rows rows (SessionLinks b step count 1)
-sessions-none b step count rows room = gains-none rows room (λ a c (p, l, x). absurd (omega arith))
-
-pub sessions-done : (b : List ℕ) (step count t : ℕ) {rows more : List Set} → t ≡ count + 1 → Gains rows more (SessionLinks b step count t)
-    → Gains rows more (λ (a c : CommitNumber). (0 < c) × (c ≤ count) × InSession b step count a c)
-sessions-done b step count t e g = gains-as g (λ a c. (λ (p, l, x). (p, omega arith, x), λ (p, l, x). (p, omega arith, x)))

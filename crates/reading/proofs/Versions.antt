@@ -66,9 +66,6 @@ module _ (b : List ℕ) (base commits : ℕ) where
     pub writer-fits : OneFits b base commits i → w ≤ commits
     writer-fits h = let l = h.writer in omega (arith, writer-read, small-writer.1 (omega arith, ap (λ (p : ℕ). le_at b p 3) (spare-place i) ∙ h.spare))
 
-    pub readers-fit : OneFits b base commits i → without read among ≡ 0
-    readers-fit h = ap₂ without readers-read s ∙ h.readers
-
     -- the writer, where it fits
     pub writer-is : OneFits b base commits i → w ≡ writer_at b base i
     writer-is h =

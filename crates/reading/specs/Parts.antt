@@ -1,6 +1,6 @@
 -- What the tests of code 20 ask of each part of an image, by the places of its bytes. The contracts of the code cite these; together they are
 -- the definition of Shape.antt (proofs/Shaped.antt). Assumes nothing.
-use Rattle.std.specs.Prelude.{ℕ, ◌+◌, ◌-◌, ◌*◌, ◌≤◌, ◌<◌, ◌≡◌, ◌⊎◌, ◌≢◌, List, length}
+use Rattle.std.specs.Prelude.{ℕ, ◌+◌, ◌-◌, ◌*◌, ◌≤◌, ◌<◌, ◌≡◌, ◌≢◌, List, length}
 use Rattle.std.specs.Int.Bits.{bit_and}
 use Rattle.endian.specs.Endian.{le_at}
 use Rattle.sets.specs.Set.{Set, without}
@@ -58,10 +58,6 @@ pub record KeyFits (b : List ℕ) (at commits : ℕ) : Type 0 where
   pub first-value : le_at b (at + 4) 4 ≡ 0
   pub first-writer : le_at b (at + 8) 1 ≡ 0
   pub versions : VersionsFit b (at + 4) (le_at b at 4) commits
-
--- an answer of where it ends, 0 where it does not fit
-abbrev pub EndOf : List ℕ → ℕ → ℕ → ℕ → Type 0
-EndOf b at commits r = ((r ≡ key_end b at) × KeyFits b at commits) ⊎ ((r ≡ 0) × (¬ KeyFits b at commits))
 
 -- ---- all of them
 

@@ -15,11 +15,7 @@ fn clear(rows: &mut [u64])
     requires { length rows.old ≡ numbers }
     ensures { (length rows.new ≡ numbers) × ((a c : ℕ) → ¬ T (links_in rows.new a c)) }
 {
-    let mut c: usize = 0;
-    while c < store::Store::NUMBERS {
-        rows[c] = 0;
-        c = c + 1;
-    }
+    rows.fill(0);
 }
 
 // Links to c from each commit of a set.
@@ -49,14 +45,12 @@ fn before(image: &[u8], step: usize, count: usize, t: usize, at: usize) -> u64
     let client = endian::byte_at(image, at);
     let session = endian::u32_at(image, at + 4);
     let mut found = 0u64;
-    let mut a: usize = 1;
     let mut place: usize = 8;
-    while a <= count {
+    for a in 1..count + 1 {
         if precedes(image, place, client, session) {
             found = sets::insert(found, a);
         }
         place = place + step;
-        a = a + 1;
     }
     found
 }
@@ -66,12 +60,10 @@ fn session_links(image: &[u8], step: usize, count: usize, rows: &mut [u64])
     requires { (8 ≤ step) × (count ≤ max_commits) × (8 + step * count ≤ length image.now) × (length image.now < 2 ^ 32) × (length rows.old ≡ numbers) }
     ensures { Gains rows.old rows.new (λ (a b : ℕ). (0 < b) × (b ≤ count) × InSession image.now step count a b) }
 {
-    let mut t: usize = 1;
     let mut at: usize = 8;
-    while t <= count {
+    for t in 1..count + 1 {
         add(rows, t, before(image, step, count, t, at));
         at = at + step;
-        t = t + 1;
     }
 }
 
@@ -95,8 +87,7 @@ fn key_links(image: &[u8], base: usize, n: usize, rows: &mut [u64])
     ensures { Gains rows.old rows.new (KeyLinks image.now base n) }
 {
     let mut earlier = endian::u64_at(image, base + 8);
-    let mut i: usize = 1;
-    while i < n {
+    for i in 1..n {
         let at = base + 16 * i;
         let writer = endian::byte_at(image, at + 4);
         let readers = endian::u64_at(image, at + 8);
@@ -104,7 +95,6 @@ fn key_links(image: &[u8], base: usize, n: usize, rows: &mut [u64])
         add(rows, writer, sets::without(earlier, own));
         reader_links(rows, writer, readers);
         earlier = sets::union(sets::union(earlier, readers), own);
-        i = i + 1;
     }
 }
 
@@ -115,12 +105,10 @@ fn keys_links(image: &[u8], start: usize, n: usize, rows: &mut [u64])
     ensures { Gains rows.old rows.new (λ (a b : ℕ). (k : ℕ) × (k < n) × KeyLinks image.now (key_place image.now k + 4) (versions_in image.now k) a b) }
 {
     let mut at = start;
-    let mut k: usize = 0;
-    while k < n {
+    for _ in 0..n {
         let count = endian::u32_at(image, at) as usize;
         key_links(image, at + 4, count, rows);
         at = at + (4 + 16 * count);
-        k = k + 1;
     }
 }
 

@@ -1,10 +1,10 @@
 // Code 20, "a misshapen image" (02, E9). Each function tests one part of the image: its first 8 bytes, an entry, a key.
-ghost use Rattle.std.specs.Prelude.{◌≡◌, true, ◌↔◌, ℕ, ◌+◌, ◌*◌, ◌^◌, ◌≤◌, ◌<◌, length};
+ghost use Rattle.std.specs.Prelude.{◌≡◌, true, ◌↔◌, ℕ, ◌+◌, ◌*◌, ◌^◌, ◌≤◌, ◌<◌, length, MatchOption};
 ghost use Rattle.endian.specs.Endian.{le_at};
 ghost use Rattle.store.specs.Limits.{max_keys, max_commits};
 ghost use Rattle.ordering.specs.Shape.{commit_set};
 ghost use Rattle.store.specs.Reading.{image_keys, image_commits, key_place};
-ghost use Rattle.reading.specs.Parts.{entry_place, NewEntry, EntryFits, VersionsFit, KeyFits, EndOf, BodyFits};
+ghost use Rattle.reading.specs.Parts.{entry_place, NewEntry, EntryFits, VersionsFit, key_end, KeyFits, BodyFits};
 ghost use Rattle.reading.specs.Shape.{well_shaped};
 
 // The entry at a place has the client and the number.
@@ -25,14 +25,12 @@ fn is_new(image: &[u8], step: usize, t: usize, at: usize) -> bool
 {
     let client = endian::byte_at(image, at);
     let session = endian::u32_at(image, at + 4);
-    let mut a: usize = 1;
     let mut place: usize = 8;
-    while a < t {
+    for _ in 1..t {
         if is_entry(image, place, client, session) {
             return false;
         }
         place = place + step;
-        a = a + 1;
     }
     true
 }
@@ -43,9 +41,8 @@ fn entries_fit(image: &[u8], step: usize, count: usize) -> bool
     requires { (8 ≤ step) × (count ≤ max_commits) × (8 + step * count ≤ length image.now) × (length image.now < 2 ^ 32) }
     ensures { (result ≡ true) ↔ ((t : ℕ) → 0 < t → t ≤ count → EntryFits image.now step t) }
 {
-    let mut t: usize = 1;
     let mut at: usize = 8;
-    while t <= count {
+    for t in 1..count + 1 {
         if (store::Store::CLIENTS as u32) <= endian::u32_at(image, at) {
             return false;
         }
@@ -53,7 +50,6 @@ fn entries_fit(image: &[u8], step: usize, count: usize) -> bool
             return false;
         }
         at = at + step;
-        t = t + 1;
     }
     true
 }
@@ -68,8 +64,7 @@ fn versions_fit(image: &[u8], base: usize, n: usize, commits: usize, among: u64)
     let mut writers = 0u64;
     let mut readers = 0u64;
     let mut count: usize = 0;
-    let mut i: usize = 0;
-    while i < n {
+    for i in 0..n {
         let at = base + 16 * i;
         let w = endian::u32_at(image, at + 4) as usize;
         if commits < w {
@@ -82,7 +77,6 @@ fn versions_fit(image: &[u8], base: usize, n: usize, commits: usize, among: u64)
         writers = sets::insert(writers, w);
         readers = sets::union(readers, read);
         count = count + sets::size(read);
-        i = i + 1;
     }
     if sets::size(writers) != n {
         return false;
@@ -90,31 +84,31 @@ fn versions_fit(image: &[u8], base: usize, n: usize, commits: usize, among: u64)
     sets::size(readers) == count
 }
 
-// The key that stands at a place: where it ends, or 0 where it is misshapen. "version 0 not (0, opening)": its value, writer and spare
+// The key that stands at a place: where it ends, if it is not misshapen. "version 0 not (0, opening)": its value, writer and spare
 // bytes are read as one number.
-fn key_end(image: &[u8], at: usize, commits: usize, among: u64) -> usize
+fn key_end(image: &[u8], at: usize, commits: usize, among: u64) -> Option<usize>
     requires { (commits ≤ max_commits) × (among ≡ commit_set commits) × (at ≤ length image.now) × (length image.now < 2 ^ 32) }
-    ensures { EndOf image.now at commits result }
+    ensures { MatchOption result (¬ KeyFits image.now at commits) (λ e. (e ≡ key_end image.now at) × KeyFits image.now at commits) }
 {
     let long = image.len();
     if long < at + 20 {
-        return 0;
+        return None;
     }
     let n = endian::u32_at(image, at) as usize;
     let end = at + (4 + 16 * n);
     if long < end {
-        return 0;
+        return None;
     }
     if n == 0 {
-        return 0;
+        return None;
     }
     if endian::u64_at(image, at + 4) != 0 {
-        return 0;
+        return None;
     }
     if !versions_fit(image, at + 4, n, commits, among) {
-        return 0;
+        return None;
     }
-    end
+    Some(end)
 }
 
 // The keys, from a place on: they fill the rest of the image exactly.
@@ -123,14 +117,11 @@ fn keys_fit(image: &[u8], start: usize, n: usize, commits: usize, among: u64) ->
     ensures { (result ≡ true) ↔ (((k : ℕ) → k < n → KeyFits image.now (key_place image.now k) commits) × (key_place image.now n ≡ length image.now)) }
 {
     let mut at = start;
-    let mut k: usize = 0;
-    while k < n {
-        let end = key_end(image, at, commits, among);
-        if end == 0 {
+    for _ in 0..n {
+        let Some(end) = key_end(image, at, commits, among) else {
             return false;
-        }
+        };
         at = end;
-        k = k + 1;
     }
     at == image.len()
 }

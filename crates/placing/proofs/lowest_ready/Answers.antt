@@ -17,4 +17,4 @@ loop-left-preserved c = (
 )
 
 pub returns : goal.returns
-returns c = (left-none _ _ _ c.requires.2 c.loop-left.invariant.1 (omega arith), omega arith)
+returns c = left-none _ _ _ c.requires.2 c.loop-left.invariant.1 (omega arith)

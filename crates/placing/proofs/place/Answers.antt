@@ -1,21 +1,26 @@
 -- `placing::place` meets its contract. Assumes nothing.
-use borrow.Author.Rules.{rules}
 use native.Mathlib.Omega.{arith}
+use lib.ListN.{length-take}
+use Rattle.std.proofs.lemmas.List.{set-get_or}
 use Rattle.placing.proofs.Listing.{listed_start, listed_next, listed-stop, listed-full}
 use Rattle.placing.proofs.place.Goals as goal
 
-pub loop-i-init : goal.loop-i-init
-loop-i-init c = (omega arith, search rules, listed_start _ _ _)
+pub loop-slot-init : goal.loop-slot-init
+loop-slot-init c = listed_start _ _ _ (omega arith)
 
-pub returns-then-c-eq0 : goal.returns-then-c-eq0
-returns-then-c-eq0 c =
-    let all = listed-stop _ _ _ c.loop-i.invariant.2 c.lowest_ready-c.ensures.0 c.if-c-eq0.true (omega arith) in
-    record { placed = all.0; written = all.1 }
+pub returns-in_default : goal.returns-in_default
+returns-in_default c =
+    let d = c.args.order.now in
+    let all = listed-stop c.args.n _ d (omega arith) c.loop-slot.invariant c.in_default.ensures (omega (arith, length-take c.args.n d)) in
+    record { placed = all.0; written = rw set-get_or all.1 }
 
-pub loop-i-preserved : goal.loop-i-preserved
-loop-i-preserved c = (omega arith, search rules, listed_next _ _ _ c.loop-i.invariant.2 c.lowest_ready-c.ensures.0 c.if-c-eq0.false (omega arith) (omega arith) c.insert-placed.ensures)
+pub loop-slot-preserved : goal.loop-slot-preserved
+loop-slot-preserved c =
+    let d = c.args.order.now in
+    listed_next _ _ d (omega arith) c.loop-slot.invariant c.in-Some.ensures.0 (omega (arith, length-take c.args.n d)) c.insert-placed.ensures
 
 pub returns : goal.returns
 returns c =
-    let all = listed-full _ _ _ c.loop-i.invariant.2 (omega arith) in
+    let d = c.args.order.now in
+    let all = listed-full c.args.n _ d (omega arith) c.loop-slot.invariant (omega (arith, length-take c.args.n d)) in
     record { placed = all.0; written = all.1 }

@@ -24,12 +24,6 @@ byte_at-count-requires c = omega (arith, ((shaped-is _).0 c.requires.0).head.lon
 pub session_links-requires : goal.session_links-requires
 session_links-requires c = (omega arith, omega (arith, c.byte_at-count.ensures.0, ((shaped-is _).0 c.requires.0).head.few-commits), long (goal.at.session_links-requires c).After-byte_at-count, short (goal.at.session_links-requires c).After-byte_at-count, c.clear.ensures.0)
 
-pub overflow_mul-step-2 : goal.overflow_mul-step-2
-overflow_mul-step-2 c = let l = long (goal.at.overflow_mul-step-2 c).After-byte_at-count in let m = short (goal.at.overflow_mul-step-2 c).After-byte_at-count in record { fits = omega arith }
-
-pub overflow_add-step-2 : goal.overflow_add-step-2
-overflow_add-step-2 c = let l = long (goal.at.overflow_add-step-2 c).After-byte_at-count in let m = short (goal.at.overflow_add-step-2 c).After-byte_at-count in record { fits = omega arith }
-
 pub keys_links-requires : goal.keys_links-requires
 keys_links-requires c =
     let h = (shaped-is _).0 c.requires.0 in

@@ -1,14 +1,10 @@
 -- `reading::shape::keys_fit` meets its contract. The loop's invariant: the keys that were passed fit, and `at` is where they end. Assumes nothing.
-use Prim.Native.Nat.{◌-◌, ◌≤◌}
+use Prim.Native.Nat.{◌≤◌}
 use mathlib.Core.Path.{◌≡◌}
 use lib.ListN.{length}
 use Rattle.store.specs.Reading.{key_place}
 use Rattle.reading.proofs.Keys.{KeysFit}
 use Rattle.reading.proofs.shape.keys_fit.Given as goal
 
-abbrev pub invariant-loop-k : goal.invariant-loop-k
-invariant-loop-k l =
-    (l.k ≤ l.n) × (l.at ≡ key_place l.image l.k) × (l.at ≤ length l.image) × KeysFit l.image l.commits l.k
-
-abbrev pub decreases-loop-k : goal.decreases-loop-k
-decreases-loop-k l = l.n - l.k
+abbrev pub invariant-loop : goal.invariant-loop
+invariant-loop l = (l.at ≡ key_place l.image l.counter) × (l.at ≤ length l.image) × KeysFit l.image l.commits l.counter
