@@ -7,7 +7,7 @@ ghost use Rattle.arranging.specs.Answers.{arrangement_of};
 ghost use Rattle.arranging.specs.Claim.{ImageClaim};
 
 use placing::Shown;
-use state::Refusal;
+use state::{Code, Refusal};
 use store::Store;
 
 // The answer for an image: a refusal with code 20 or 17, or what was shown, and how many commits it has.
@@ -24,10 +24,10 @@ pub fn judge_image(image: &[u8], out: &mut [u8]) -> Arrangement
     ensures holds { ImageClaim image.now }
 {
     if !reading::shape::shape(image) {
-        return Arrangement::Refused(Refusal::of_record(20, 0));
+        return Arrangement::Refused(Refusal::of_record(Code::NoImage, 0));
     }
     if out.len() < Store::COMMITS {
-        return Arrangement::Refused(Refusal::of_record(17, 0));
+        return Arrangement::Refused(Refusal::of_record(Code::Room, 0));
     }
     let mut rows = [0u64; Store::NUMBERS];
     reading::linking::fill(image, &mut rows);

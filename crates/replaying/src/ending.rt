@@ -4,7 +4,7 @@ ghost use Rattle.answer.specs.Written.{replay_answer, replay_after};
 ghost use Rattle.replaying.specs.Answers.{replay_of, Ending};
 
 use crate::{Replay, records};
-use state::Refusal;
+use state::{Code, Refusal};
 use trace::form::Header;
 use verdicts::told::{Verdict, Verdicts};
 
@@ -22,11 +22,11 @@ pub fn finish(file: &[u8], buffer: &mut [u8], h: Header, count: usize, verdicts:
         version,
     } = ser
     {
-        return Replay::Refused(Refusal::of_version(16, record, key, version));
+        return Replay::Refused(Refusal::of_version(Code::NotSerial, record, key, version));
     }
     let whole = records::size(file, h);
     if buffer.len() < whole {
-        return Replay::Refused(Refusal::of_record(17, 0));
+        return Replay::Refused(Refusal::of_record(Code::Room, 0));
     }
     writing::put_head(buffer, whole, h.keys, h.clients, 2 * count);
     records::write(file, buffer, h);

@@ -9,7 +9,7 @@ ghost use Rattle.visible.specs.Claim.{Visibility};
 ghost use Rattle.seeing.specs.Answer.{visibility_answer, table_after};
 
 use judging::Answer;
-use state::Refusal;
+use state::{Code, Refusal};
 
 // The answer for the bytes of a file, whatever they are, is that of `judge`, or code 21 where the table has fewer rows than there are commits. Where it was
 // judged, the image stands at the start of its buffer and the rows at the start of the table; with 21 "the image stands as judged".
@@ -28,7 +28,7 @@ pub fn report(file: &[u8], image: &mut [u8], table: &mut [u64]) -> Answer
             image_length,
         } => {
             if table.len() < commits {
-                return Answer::Refused(Refusal::of_record(21, 0));
+                return Answer::Refused(Refusal::of_record(Code::Rows, 0));
             }
             gathering::fill(&image[..image_length], table);
             Answer::Judged {

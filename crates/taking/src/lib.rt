@@ -64,7 +64,7 @@ fn take_records(
         engine,
     );
     match ran {
-        Ran::Misshapen { code, record } => Taking::Refused(Refusal::of_record(code, record)),
+        Ran::Misshapen { code, record } => Taking::Refused(Refusal::of_form(code, record)),
         Ran::Refused(refusal) => Taking::Refused(refusal),
         Ran::Done { commits: count } => Taking::Taken {
             header: h,
@@ -87,7 +87,7 @@ pub fn take_file(
     ensures { TakingSays file.now versions.new keys.new commits.new views.new result }
 {
     match trace::form::header_of(file) {
-        Form::Misshapen { code, record } => Taking::Refused(Refusal::of_record(code, record)),
+        Form::Misshapen { code, record } => Taking::Refused(Refusal::of_form(code, record)),
         Form::Whole(h) => take_records(file, h, versions, keys, commits, views, engine),
     }
 }

@@ -11,4 +11,4 @@ take_records-requires c = record { headed = headed-of c.header_of.ensures c.in-W
 pub returns-in-Misshapen : goal.returns-in-Misshapen
 unfolding TakingSays
 returns-in-Misshapen c =
-    misshapen-of _ c.header_of.ensures c.in-Misshapen.is ∙ ap refused (sym c.of_record.ensures)
+    misshapen-of _ c.header_of.ensures c.in-Misshapen.is ∙ ap refused (sym c.of_form.ensures)

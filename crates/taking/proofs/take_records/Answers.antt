@@ -53,7 +53,7 @@ run_all-ran-requires c =
 pub returns-in-Misshapen : goal.returns-in-Misshapen
 unfolding TakingSays
 returns-in-Misshapen c =
-    ran-misshapen c.requires.headed _ c.run_all-ran.ensures.form c.in-Misshapen.is ∙ ap refused (sym c.of_record.ensures)
+    ran-misshapen c.requires.headed _ c.run_all-ran.ensures.form c.in-Misshapen.is ∙ ap refused (sym c.of_form.ensures)
 
 pub returns-in-Refused : goal.returns-in-Refused
 unfolding TakingSays
