@@ -7,7 +7,7 @@ ghost use Rattle.arranging.specs.Answers.{arrangement_of};
 ghost use Rattle.arranging.specs.Claim.{ImageClaim};
 
 use placing::Shown;
-use state::Refusal;
+use state::{Code, Refusal};
 use store::Store;
 
 // The answer for the bytes of an image, whatever they are: a refusal with code 20 or 17, or what was shown, and how many commits it has. What is shown stands at
@@ -18,10 +18,10 @@ pub fn judge_image(image: &[u8], out: &mut [u8]) -> Result<Shown, Refusal>
     ensures holds { ImageClaim image.now }
 {
     if !reading::shape::shape(image) {
-        return Err(Refusal::of_record(20, 0));
+        return Err(Refusal::of_record(Code::NoImage, 0));
     }
     if out.len() < Store::COMMITS {
-        return Err(Refusal::of_record(17, 0));
+        return Err(Refusal::of_record(Code::Room, 0));
     }
     let mut rows = [0u64; Store::NUMBERS];
     reading::linking::fill(image, &mut rows);

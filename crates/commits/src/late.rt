@@ -15,7 +15,7 @@ ghost use Rattle.commits.specs.Codes.{LateGiven, AfterSays, JudgeGiven, LateSays
 use crate::Engine;
 use crate::engines::judge_by;
 use shifts::masks::sight;
-use state::{CommitNumber, Refusal};
+use state::{Code, CommitNumber, Refusal};
 use trying::Tried;
 
 // The commit's own number, as a set; none where it writes nothing.
@@ -57,7 +57,7 @@ fn sight_after(
     let base = state::PER_CLIENT * client;
     let held = sight(number, versions, keys, fresh, views, base, seen[client], n)?;
     if let Some(k) = views::masks::stray(fresh, views, base, ranks, n) {
-        return Err(Refusal::of_key(14, number, k));
+        return Err(Refusal::of_key(Code::Stray, number, k));
     }
     Ok(held)
 }

@@ -14,7 +14,7 @@ ghost use Rattle.commits.specs.Records.{ValuesFit, SortedIn, commit_in, Recorded
 use crate::Engine;
 use crate::engines::wanted_by;
 use crate::late::late;
-use state::{CommitNumber, Refusal};
+use state::{Code, CommitNumber, Refusal};
 use trace::records::Listing;
 
 // Where the parts of a commit stand in the file, the ranks of its operations, and what it lists of its view after.
@@ -132,7 +132,7 @@ pub fn commit_to(
     let client = at.client;
     let session = at.session;
     if (session as u64) < sessions[state::BAR + client] {
-        return Err(Refusal::of_record(9, number));
+        return Err(Refusal::of_record(Code::SessionNumber, number));
     }
     let ranks = at.ranks;
     view_after(file, at, views, fresh, n);

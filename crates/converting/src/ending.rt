@@ -4,7 +4,7 @@ ghost use Rattle.answer.specs.Converted.{convert_answer, convert_after};
 ghost use Rattle.converting.specs.Answers.{edition_of, conversion_of, Ending};
 
 use crate::{Edition, records};
-use state::Refusal;
+use state::{Code, Refusal};
 use store::Store;
 use trace::form::Header;
 
@@ -17,10 +17,10 @@ pub fn finish(file: &[u8], buffer: &mut [u8], h: Header, edition: Edition) -> Re
 {
     let whole = records::size(edition, file, h);
     if Store::BYTES < whole {
-        return Err(Refusal::of_record(22, 0));
+        return Err(Refusal::of_record(Code::TooLong, 0));
     }
     if buffer.len() < whole {
-        return Err(Refusal::of_record(17, 0));
+        return Err(Refusal::of_record(Code::Room, 0));
     }
     writing::put_head(buffer, whole, h.keys, h.clients, h.records);
     records::write(edition, file, buffer, h);

@@ -8,7 +8,7 @@ ghost use Rattle.taking.specs.Taking.{Takes};
 ghost use Rattle.judging.specs.Answers.{answer_of, told_answer};
 
 use crate::{Answer, Judged};
-use state::Refusal;
+use state::{Code, Refusal};
 use trace::form::Header;
 use verdicts::told::Verdicts;
 
@@ -30,7 +30,7 @@ pub fn finish(
     let n = header.keys;
     let whole = imaging::size(keys, n, count);
     if buffer.len() < whole {
-        return Err(Refusal::of_record(15, 0));
+        return Err(Refusal::of_record(Code::ImageRoom, 0));
     }
     imaging::write(buffer, versions, keys, commits, views, n, count, whole);
     Ok(Judged {

@@ -10,7 +10,7 @@ ghost use Rattle.pieces.specs.Close.{close_answer, close_image, RefusalKeepsImag
 ghost use Rattle.pieces.specs.Has.{Has, JudgesJoined};
 
 use judging::Answer;
-use state::Refusal;
+use state::{Code, Refusal};
 use store::Store;
 
 // Two words, of which any values are a record: how many bytes came, 65,537 for any number above 65,536; and 0, or another number where it is closed.
@@ -127,13 +127,13 @@ fn answer(was: Session, kept: &[u8], image: &mut [u8]) -> Answer
 {
     let total = was.total;
     if was.closed != 0 {
-        return Err(Refusal::of_record(18, 0));
+        return Err(Refusal::of_record(Code::Closed, 0));
     }
     if Store::BYTES < total {
-        return Err(Refusal::of_record(1, 0));
+        return Err(Refusal::of_record(Code::FileLength, 0));
     }
     if kept.len() < total {
-        return Err(Refusal::of_record(17, 0));
+        return Err(Refusal::of_record(Code::Room, 0));
     }
     judging::judge(&kept[..total], image)
 }

@@ -9,7 +9,7 @@ ghost use Rattle.visible.specs.Claim.{Visibility};
 ghost use Rattle.seeing.specs.Answer.{visibility_answer, table_after};
 
 use judging::Answer;
-use state::Refusal;
+use state::{Code, Refusal};
 
 // The answer for the bytes of a file, whatever they are, is that of `judge`, or code 21 where the table has fewer rows than there are commits. Where it was
 // judged, the image stands at the start of its buffer and the rows at the start of the table; with 21 "the image stands as judged".
@@ -21,7 +21,7 @@ pub fn report(file: &[u8], image: &mut [u8], table: &mut [u64]) -> Answer
 {
     let judged = judging::judge(file, image)?;
     if table.len() < judged.commits {
-        return Err(Refusal::of_record(21, 0));
+        return Err(Refusal::of_record(Code::Rows, 0));
     }
     gathering::fill(&image[..judged.image_length], table);
     Ok(judged)

@@ -7,7 +7,7 @@ ghost use Rattle.state.specs.Room.{VersionsRoom, KeysRoom, FreshRoom};
 ghost use Rattle.views.specs.Viewed.{NewMasks};
 ghost use Rattle.shifts.specs.Outcomes.{SightSays};
 
-use state::Refusal;
+use state::{Code, Refusal};
 
 // Codes 10 and 11, for the record of this number, and the commits of which the masks hold a version. The client's view stands at `base` and holds the
 // commits `seen`.
@@ -26,9 +26,9 @@ pub fn sight(
         → SightSays number s u result }
 {
     if let Some(k) = views::masks::bad_mask(fresh, keys, n) {
-        return Err(Refusal::of_key(10, number, k));
+        return Err(Refusal::of_key(Code::Mask, number, k));
     }
     views::held::viewed(versions, keys, fresh, views, base, seen, n).map_err(
-        |half| Refusal::of_version(11, number, half.key, half.version),
+        |half| Refusal::of_version(Code::HalfHeld, number, half.key, half.version),
     )
 }

@@ -12,7 +12,7 @@ ghost use Rattle.trace.specs.Meaning.{listing_of, ListingFits};
 ghost use Rattle.shifts.specs.Outcomes.{outcome_of, ShiftGiven};
 
 use crate::masks;
-use state::Refusal;
+use state::{Code, Refusal};
 use trace::records::Listing;
 
 // The masks in `fresh` are all versions that there are: no code is due, and they become the client's view, which holds all commits that wrote
@@ -62,7 +62,7 @@ fn shift_on(
     let base = state::PER_CLIENT * client;
     let held = masks::sight(number, versions, keys, fresh, views, base, seen[client], n)?;
     if let Some(place) = views::masks::lost(fresh, views, base, n) {
-        return Err(Refusal::of_version(12, number, place.key, place.version));
+        return Err(Refusal::of_version(Code::Lost, number, place.key, place.version));
     }
     views::masks::keep(views, base, fresh, n);
     seen[client] = held;

@@ -1,6 +1,5 @@
 -- `views::missing::least_by_reader` meets its contract. The invariants are those of `least_by_writer`, by another rule. Assumes nothing.
-use Rattle.std.specs.Prelude.{None}
-use Rattle.std.proofs.Common.{◌≡◌, ℕ, ◌-◌, ◌<◌, ◌≤◌}
+use Rattle.std.proofs.Common.{◌≡◌, ℕ, ◌-◌, ◌<◌, ◌≤◌, None}
 use Rattle.store.specs.Store.{View, Store}
 use Rattle.store.proofs.Missing.{MetAt}
 use Rattle.views.specs.Rules.{StoreAndView, by_reader}

@@ -1,7 +1,6 @@
 -- `views::missing::least_by_writer` meets its contract. The outer loop's invariant: nothing is missing at the keys passed; the inner one's: each version that is
 -- wanted and lacking at the key is among those that are left. Assumes nothing.
-use Rattle.std.specs.Prelude.{None}
-use Rattle.std.proofs.Common.{◌≡◌, ℕ, ◌-◌, ◌<◌, ◌≤◌}
+use Rattle.std.proofs.Common.{◌≡◌, ℕ, ◌-◌, ◌<◌, ◌≤◌, None}
 use Rattle.store.specs.Store.{View, Store}
 use Rattle.store.proofs.Missing.{MetAt}
 use Rattle.views.specs.Rules.{StoreAndView, by_writer}
