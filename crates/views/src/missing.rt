@@ -24,8 +24,7 @@ pub fn least_by_writer(
     ensures { (s : Store) (u : View) → StoreAndView s u n versions.now keys.now masks.now base → place_of result ≡ missing s (by_writer s set) u }
 {
     let mut found = state::Found::Nothing;
-    let mut k: usize = 0;
-    'search: while k < n {
+    'search: for k in 0..n {
         let mut left = sets::without(keys[k], masks[base + k]);
         while left != 0 {
             let v = sets::lowest(left);
@@ -35,7 +34,6 @@ pub fn least_by_writer(
             }
             left = sets::rest(left);
         }
-        k = k + 1;
     }
     found
 }
@@ -53,8 +51,7 @@ pub fn least_by_reader(
     ensures { (s : Store) (u : View) → StoreAndView s u n versions.now keys.now masks.now base → place_of result ≡ missing s (by_reader s set) u }
 {
     let mut found = state::Found::Nothing;
-    let mut k: usize = 0;
-    'search: while k < n {
+    'search: for k in 0..n {
         let mut left = sets::without(keys[k], masks[base + k]);
         while left != 0 {
             let v = sets::lowest(left);
@@ -64,7 +61,6 @@ pub fn least_by_reader(
             }
             left = sets::rest(left);
         }
-        k = k + 1;
     }
     found
 }
@@ -75,15 +71,13 @@ pub fn least_absent(keys: &[u64], masks: &[u64], base: usize, ranks: u64, n: usi
     requires { (n ≤ max_keys) × KeysRoom keys.now × (base + n ≤ length masks.now) }
     ensures { (s : Store) (u : View) (c : Commit) (values : List ℕ) → Made s u c → s.keys ≡ n → KeepsKeys (update s u c) keys.now → KeepsOperations c ranks values → RowAt n masks.now base u → place_of result ≡ missing s (of_written ranks) u }
 {
-    let mut k: usize = 0;
-    while k < n {
+    for k in 0..n {
         if sets::has(ranks, 2 * k + 1) {
             let left = sets::without(keys[k] / 2, masks[base + k]);
             if left != 0 {
                 return state::Found::At(state::Key(k), state::VersionNumber(sets::lowest(left)));
             }
         }
-        k = k + 1;
     }
     state::Found::Nothing
 }

@@ -6,11 +6,11 @@ use Rattle.views.proofs.Looking.{looking-all, looking-on, looking-done, looking-
 use Rattle.views.proofs.missing.least_by_reader.Goals as goal
 
 pub search-init : goal.search-init
-search-init c = (omega arith, refl, λ s u h l b. absurd (omega arith))
+search-init c = (refl, λ s u h l b. absurd (omega arith))
 
 pub loop-left-init : goal.loop-left-init
 loop-left-init c = (
-  c.search.invariant.1,
+  c.search.invariant.0,
   omega arith,
   λ s u h.
       looking-all s _ u _ (c.type_inv.keys _).fits (h.in-keys.full _ (omega arith)) (h.in-masks _ (omega arith)) c.without-left.ensures,
@@ -26,16 +26,15 @@ loop-left-preserved c = (
 
 pub search-preserved : goal.search-preserved
 search-preserved c = (
-  omega arith,
   c.loop-left.invariant.0,
   λ s u h.
-      below_more _ _ (c.search.invariant.2 s u h) (looking-done s _ u _ (c.loop-left.invariant.2 s u h) c.loop-left-test.false),
+      below_more _ _ (c.search.invariant.1 s u h) (looking-done s _ u _ (c.loop-left.invariant.2 s u h) c.loop-left-test.false),
 )
 
 pub returns-after-search : goal.returns-after-search
 returns-after-search c = λ s u h.
-    ap place_of c.search.invariant.1 ∙ missing-nowhere s _ u _ h.number (λ l b. c.search.invariant.2 s u h l (omega arith))
+    ap place_of c.search.invariant.0 ∙ missing-nowhere s _ u _ h.number (λ l b. c.search.invariant.1 s u h l (omega arith))
 
 pub returns-then-set-versions-ne0 : goal.returns-then-set-versions-ne0
 returns-then-set-versions-ne0 c = λ s u h.
-    looking-found s _ u _ (c.loop-left.invariant.2 s u h) c.loop-left-test.true c.lowest-v.ensures.0 (λ b. read_by s u _ _ _ _ _ h _ _ b _ c.if-set-versions-ne0.true) (omega arith) (c.search.invariant.2 s u h)
+    looking-found s _ u _ (c.loop-left.invariant.2 s u h) c.loop-left-test.true c.lowest-v.ensures.0 (λ b. read_by s u _ _ _ _ _ h _ _ b _ c.if-set-versions-ne0.true) (omega arith) (c.search.invariant.1 s u h)

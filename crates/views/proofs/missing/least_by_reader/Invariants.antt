@@ -1,5 +1,5 @@
 -- `views::missing::least_by_reader` meets its contract. The invariants are those of `least_by_writer`, by another rule. Assumes nothing.
-use Rattle.std.proofs.Common.{◌≡◌, ℕ, ◌-◌, ◌<◌, ◌≤◌}
+use Rattle.std.proofs.Common.{◌≡◌, ℕ, ◌<◌}
 use Rattle.store.specs.Store.{View, Store}
 use Rattle.store.proofs.Missing.{MetAt}
 use Rattle.state.specs.declared.Found.TheVariants.{Nothing}
@@ -16,7 +16,4 @@ decreases-loop-left l = l.left
 
 abbrev pub invariant-search : goal.invariant-search
 invariant-search l =
-    (l.k ≤ l.n) × (l.found ≡ Nothing) × ((s : Store) (u : View) → StoreAndView s u l.n l.versions l.keys l.masks l.base → (j : ℕ) → j < l.k → MetAt s (by_reader s l.set) u j)
-
-abbrev pub decreases-search : goal.decreases-search
-decreases-search l = l.n - l.k
+    (l.found ≡ Nothing) × ((s : Store) (u : View) → StoreAndView s u l.n l.versions l.keys l.masks l.base → (j : ℕ) → j < l.k → MetAt s (by_reader s l.set) u j)

@@ -1,6 +1,6 @@
 -- `views::missing::least_by_writer` meets its contract. The outer loop's invariant: nothing is missing at the keys passed; the inner one's: each version that is
 -- wanted and lacking at the key is among those that are left. Assumes nothing.
-use Rattle.std.proofs.Common.{◌≡◌, ℕ, ◌-◌, ◌<◌, ◌≤◌}
+use Rattle.std.proofs.Common.{◌≡◌, ℕ, ◌<◌}
 use Rattle.store.specs.Store.{View, Store}
 use Rattle.store.proofs.Missing.{MetAt}
 use Rattle.state.specs.declared.Found.TheVariants.{Nothing}
@@ -17,7 +17,4 @@ decreases-loop-left l = l.left
 
 abbrev pub invariant-search : goal.invariant-search
 invariant-search l =
-    (l.k ≤ l.n) × (l.found ≡ Nothing) × ((s : Store) (u : View) → StoreAndView s u l.n l.versions l.keys l.masks l.base → (j : ℕ) → j < l.k → MetAt s (by_writer s l.set) u j)
-
-abbrev pub decreases-search : goal.decreases-search
-decreases-search l = l.n - l.k
+    (l.found ≡ Nothing) × ((s : Store) (u : View) → StoreAndView s u l.n l.versions l.keys l.masks l.base → (j : ℕ) → j < l.k → MetAt s (by_writer s l.set) u j)
