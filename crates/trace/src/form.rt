@@ -31,7 +31,9 @@ pub fn counted(x: Reading, commits: usize) -> Reading
     requires { commits ≤ max_commits }
     ensures { (s : List ℕ) (keys : ℕ) → result ≡ counted_of s keys commits x }
 {
-    let whole = x?;
+    let Ok(whole) = x else {
+        return x;
+    };
     let count = records::commits_with(whole.record, commits);
     if store::Store::COMMITS < count {
         return Err(Why::Many);

@@ -3,7 +3,7 @@
 use Rattle.std.proofs.Common.{◌≡◌, ℕ, suc, ◌-◌, ◌/◌, ◌^◌, ◌<◌, ◌≤◌, T, ◌≢◌, sym, ap, ◌∙◌, subst, pow-suc, arith, pow_pos}
 use mathlib.Core.Option.{some, none}
 use Rattle.search.proofs.Tests.{stable}
-use Rattle.sets.specs.Set.{has, below, lowest, single, without}
+use Rattle.sets.specs.Set.{Gives, has, below, lowest, single, without}
 use Rattle.sets.proofs.Laws.{has-none, has-below, below-has, has-lowest, lowest-least, single-only}
 use Rattle.sets.proofs.Algebra.{without_is, without-word}
 use Rattle.store.specs.Store.{Key, View, Store, count, Commit}
@@ -35,30 +35,30 @@ module _ (s : Store) (want : Rule) (u : View) (k : Key) where
     pub looking-done : left ≡ 0 → MetAt s want u k
     looking-done e i l t = stable (has (u k) i) (λ n. has-none i (has-as i e (h.waits i l t n)))
 
-    module _ (p : left ≢ 0) {v : ℕ} (low : v ≡ lowest left) where
-      some_left : 0 < left
-      some_left = omega arith
+    -- the lowest is not wanted
+    pub looking-on : {v rest : ℕ} → Gives left v rest → (v < count s k → ¬ T (want k v)) → Looking s want u k rest
+    looking-on {v} g n = record {
+      word = rw g.others (without-word left (single v) h.word);
+      within = λ i t. h.within i ((without_is left (single v) i).0 (has-as i g.others t)).0;
+      waits = λ i l t m. has-as i (sym g.others) ((without_is left (single v) i).1
+          (h.waits i l t m, λ x. n (h.within v g.held).0 (subst (λ (j : ℕ). T (want k j)) (single-only v i x) t)));
+    }
 
-      lowest-in : T (has left v)
-      lowest-in = rw low (has-lowest left some_left h.word)
+    -- it is wanted: the first
+    pub looking-first : {v : ℕ} → T (has left v) → ((j : ℕ) → T (has left j) → v ≤ j) → (v < count s k → T (want k v)) → k < s.keys → ((l : ℕ) → l < k → MetAt s want u l)
+        → some (record { key = k; version = v }) ≡ missing s want u
+    looking-first {v} held least t l before =
+        let w = h.within v held in
+        sym (missing-found s want u k v l w.0 (t w.0) w.1 before (λ j m y. stable (has (u k) j) (λ n. earlier j m (h.waits j (omega (arith, w.0)) y n))))
+      where
+        earlier : (j : ℕ) → j < v → T (has left j) → ⊥
+        earlier j m x = let g : v ≤ j = least j x in omega arith
 
-      -- the lowest is not wanted
-      pub looking-on : (v < count s k → ¬ T (want k v)) → {rest : ℕ} → rest ≡ without left (single (lowest left)) → Looking s want u k rest
-      looking-on n {rest} e = record {
-        word = rw e (without-word left (single (lowest left)) h.word);
-        within = λ i t. h.within i ((without_is left (single (lowest left)) i).0 (has-as i e t)).0;
-        waits = λ i l t m. has-as i (sym e) ((without_is left (single (lowest left)) i).1
-            (h.waits i l t m, λ x. n (h.within v lowest-in).0 (subst (λ (j : ℕ). T (want k j)) (single-only (lowest left) i x ∙ sym low) t)));
-      }
-
-      -- it is wanted: the first
-      pub looking-found : (v < count s k → T (want k v)) → k < s.keys → ((l : ℕ) → l < k → MetAt s want u l) → some (record { key = k; version = v }) ≡ missing s want u
-      looking-found t l before =
-          let w = h.within v lowest-in in
-          sym (missing-found s want u k v l w.0 (t w.0) w.1 before (λ j m y. stable (has (u k) j) (λ n. earlier j m (h.waits j (omega (arith, w.0)) y n))))
-        where
-          earlier : (j : ℕ) → j < v → T (has left j) → ⊥
-          earlier j m x = let g : lowest left ≤ j = lowest-least left some_left h.word j x in omega arith
+    pub looking-found : left ≢ 0 → {v : ℕ} → v ≡ lowest left → (v < count s k → T (want k v)) → k < s.keys → ((l : ℕ) → l < k → MetAt s want u l)
+        → some (record { key = k; version = v }) ≡ missing s want u
+    looking-found p {v} low =
+        let some_left : 0 < left = omega arith in
+        looking-first (rw low (has-lowest left some_left h.word)) (λ j x. rw low (lowest-least left some_left h.word j x))
 
 module _ (s : Store) (u : View) (k : Key) where
   -- the versions of another view that the mask lacks

@@ -1,5 +1,5 @@
 -- What the words in the arrays say: sets that have a number in common, and the writer in a head. Assumes nothing.
-use Rattle.std.proofs.Common.{◌≡◌, ℕ, ◌^◌, ◌<◌, T, eqb, ◌≢◌, ◌↔◌, List, get_or, ap, ◌∙◌, arith, eq-eqb, ne_eqb}
+use Rattle.std.proofs.Common.{◌≡◌, ℕ, ◌^◌, ◌<◌, not, T, eqb, ◌≢◌, ◌↔◌, List, get_or, ap, ◌∙◌, arith, eq-eqb, ne_eqb}
 use lib.Bits.{bit_and, and_le_l}
 use Rattle.search.proofs.Tests.{not_is, eq_is}
 use Rattle.sets.specs.Set.{Set, has, lowest}
@@ -43,8 +43,6 @@ module _ (s : Store) (u : View) (n : ℕ) (versions keys masks : List ℕ) (base
   pub written-by : (set : Set) {w : ℕ} → w ≡ writer_in (get_or versions (head_place k i) 0) → has set w ≡ by_writer s set k i
   written-by set e = ap (has set) (e ∙ writer-in-array)
 
-  pub read_by : (set : Set) → bit_and set (get_or versions (readers_place k i) 0) ≢ 0 → T (by_reader s set k i)
-  read_by set n = rw (← h.in-versions.readers k i l) (meets-yes set _ n)
-
-  pub unread-by : (set : Set) → bit_and set (get_or versions (readers_place k i) 0) ≡ 0 → ¬ T (by_reader s set k i)
-  unread-by set e = rw (← h.in-versions.readers k i l) (meets-no set _ e)
+  pub read-by : (set : Set) → not (eqb (bit_and set (get_or versions (readers_place k i) 0)) 0) ≡ by_reader s set k i
+  unfolding meets
+  read-by set = rw (h.in-versions.readers k i l)

@@ -32,12 +32,10 @@ fn subtract(
     ensures { Subtracted masks.now base others.now other n left.new result }
 {
     let mut any = 0u64;
-    let mut k: usize = 0;
-    while k < n {
+    for k in 0..n {
         let word = sets::without(masks[base + k], others[other + k]);
         left[k] = word;
         any = sets::union(any, word);
-        k = k + 1;
     }
     any
 }
@@ -49,13 +47,11 @@ fn take_row(versions: &[u64], left: &mut [u64], t: CommitNumber, n: usize) -> u6
 {
     let row = state::OWNED + state::PER_COMMIT * t.0;
     let mut lacks = 0u64;
-    let mut k: usize = 0;
-    while k < n {
+    for k in 0..n {
         let own = versions[row + k];
         let word = left[k];
         lacks = sets::union(lacks, sets::without(own, word));
         left[k] = sets::without(word, own);
-        k = k + 1;
     }
     lacks
 }
@@ -91,12 +87,10 @@ fn take_all(versions: &[u64], left: &mut [u64], n: usize) -> Writers
 {
     let mut all = 0u64;
     let mut half = 0u64;
-    let mut k: usize = 0;
-    while k < n {
+    for k in 0..n {
         let found = take_key(versions, left, Key(k), n, Writers { all, half });
         all = found.all;
         half = found.half;
-        k = k + 1;
     }
     Writers { all, half }
 }

@@ -17,10 +17,8 @@ pub fn all_writers(keys: &[u64], n: usize) -> u64
     ensures { IsSet result (WriterBelow keys.now n) }
 {
     let mut all = 0u64;
-    let mut k: usize = 0;
-    while k < n {
-        all = sets::union(all, keys[state::WRITERS + k]);
-        k = k + 1;
+    for writers in &keys[state::WRITERS..state::WRITERS + n] {
+        all = sets::union(all, *writers);
     }
     all
 }

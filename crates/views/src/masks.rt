@@ -23,14 +23,12 @@ fn wrong(fresh: &[u64], keys: &[u64], n: usize) -> u64
     ensures { result ≡ 0 → (k : ℕ) → k < n → (without 1 (slice_index fresh.now k) ≡ 0) × (without (slice_index fresh.now k) (slice_index keys.now k) ≡ 0) }
 {
     let mut all = 0u64;
-    let mut k: usize = 0;
-    while k < n {
+    for k in 0..n {
         let mask = fresh[k];
         all = sets::union(
             all,
             sets::union(sets::without(1, mask), sets::without(mask, keys[k])),
         );
-        k = k + 1;
     }
     all
 }
@@ -43,8 +41,7 @@ pub fn bad_mask(fresh: &[u64], keys: &[u64], n: usize) -> Option<state::Key>
     if wrong(fresh, keys, n) == 0 {
         return None;
     }
-    let mut k: usize = 0;
-    while k < n {
+    for k in 0..n {
         let mask = fresh[k];
         if !sets::has(mask, 0) {
             return Some(state::Key(k));
@@ -52,7 +49,6 @@ pub fn bad_mask(fresh: &[u64], keys: &[u64], n: usize) -> Option<state::Key>
         if sets::without(mask, keys[k]) != 0 {
             return Some(state::Key(k));
         }
-        k = k + 1;
     }
     None
 }
@@ -63,11 +59,9 @@ fn lacked(fresh: &[u64], views: &[u64], base: usize, n: usize) -> u64
     ensures { result ≡ 0 → (k : ℕ) → k < n → without (slice_index views.now (base + k)) (slice_index fresh.now k) ≡ 0 }
 {
     let mut all = 0u64;
-    let mut k: usize = 0;
-    while k < n {
+    for k in 0..n {
         let view = views[base + k];
         all = sets::union(all, sets::without(view, fresh[k]));
-        k = k + 1;
     }
     all
 }
@@ -80,8 +74,7 @@ pub fn lost(fresh: &[u64], views: &[u64], base: usize, n: usize) -> Option<state
     if lacked(fresh, views, base, n) == 0 {
         return None;
     }
-    let mut k: usize = 0;
-    while k < n {
+    for k in 0..n {
         let left = sets::without(views[base + k], fresh[k]);
         if left != 0 {
             return Some(state::Place {
@@ -89,7 +82,6 @@ pub fn lost(fresh: &[u64], views: &[u64], base: usize, n: usize) -> Option<state
                 version: state::VersionNumber(sets::lowest(left)),
             });
         }
-        k = k + 1;
     }
     None
 }
@@ -128,13 +120,11 @@ fn astray(fresh: &[u64], views: &[u64], base: usize, ranks: u64, n: usize) -> u6
     ensures { result ≡ 0 → (k : ℕ) → k < n → false ≡ strays (slice_index fresh.now k) (slice_index views.now (base + k)) ranks k }
 {
     let mut all = 0u64;
-    let mut k: usize = 0;
-    while k < n {
+    for k in 0..n {
         all = sets::union(
             all,
             strayed(fresh[k], views[base + k], ranks, state::Key(k)),
         );
-        k = k + 1;
     }
     all
 }
@@ -147,12 +137,10 @@ pub fn stray(fresh: &[u64], views: &[u64], base: usize, ranks: u64, n: usize) ->
     if astray(fresh, views, base, ranks, n) == 0 {
         return None;
     }
-    let mut k: usize = 0;
-    while k < n {
+    for k in 0..n {
         if strays(fresh[k], views[base + k], ranks, state::Key(k)) {
             return Some(state::Key(k));
         }
-        k = k + 1;
     }
     None
 }
@@ -163,10 +151,8 @@ pub fn same(fresh: &[u64], masks: &[u64], base: usize, n: usize) -> bool
     ensures { T result ↔ ((k : ℕ) → k < n → slice_index fresh.now k ≡ slice_index masks.now (base + k)) }
 {
     let mut all = 0u64;
-    let mut k: usize = 0;
-    while k < n {
+    for k in 0..n {
         all = sets::union(all, fresh[k] ^ masks[base + k]);
-        k = k + 1;
     }
     all == 0
 }
@@ -185,11 +171,9 @@ pub fn adds_own(
 {
     let row = state::OWNED + state::PER_COMMIT * me.0;
     let mut all = 0u64;
-    let mut k: usize = 0;
-    while k < n {
+    for k in 0..n {
         let own = sets::union(views[base + k], versions[row + k]);
         all = sets::union(all, fresh[k] ^ own);
-        k = k + 1;
     }
     all == 0
 }
@@ -206,12 +190,8 @@ pub fn store_and_keep(
     ensures { Moved fresh.now base (view_place (stored_row me.0) 0) n views.old views.new }
 {
     let place = state::CLIENT_ROWS + state::PER_CLIENT * me.0;
-    let mut k: usize = 0;
-    while k < n {
-        views[place + k] = views[base + k];
-        views[base + k] = fresh[k];
-        k = k + 1;
-    }
+    views.copy_within(base..base + n, place);
+    views[base..base + n].copy_from_slice(&fresh[..n]);
 }
 
 // The masks become the view at `base`.
@@ -219,9 +199,5 @@ pub fn keep(views: &mut [u64], base: usize, fresh: &[u64], n: usize)
     requires { (n ≤ length fresh.now) × (base + n ≤ length views.old) }
     ensures { Kept fresh.now base n views.old views.new }
 {
-    let mut k: usize = 0;
-    while k < n {
-        views[base + k] = fresh[k];
-        k = k + 1;
-    }
+    views[base..base + n].copy_from_slice(&fresh[..n]);
 }

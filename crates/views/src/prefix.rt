@@ -28,10 +28,8 @@ pub fn prefixes(fresh: &[u64], n: usize) -> bool
     ensures { result ≡ true → Prefixes fresh.now n }
 {
     let mut found = 0u64;
-    let mut k: usize = 0;
-    while k < n {
-        found = sets::union(found, gaps(fresh[k]));
-        k = k + 1;
+    for mask in &fresh[..n] {
+        found = sets::union(found, gaps(*mask));
     }
     found == 0
 }
@@ -53,14 +51,12 @@ pub fn split(versions: &[u64], keys: &[u64], fresh: &[u64], n: usize) -> Parts
 {
     let mut held = 0u64;
     let mut lacking = 0u64;
-    let mut k: usize = 0;
-    while k < n {
+    for k in 0..n {
         let writer = state::newest_visible(versions, fresh[k], Key(k)).writer;
         let writers = keys[state::WRITERS + k];
         let later = sets::without(writers, sets::up_to(writer.0));
         held = sets::union(held, sets::without(writers, later));
         lacking = sets::union(lacking, later);
-        k = k + 1;
     }
     Parts { held, lacking }
 }

@@ -1,13 +1,10 @@
 -- `views::apart::subtract` meets its contract. The loop's invariant: the words of the keys passed are the differences. Assumes nothing.
-use Rattle.std.proofs.Common.{◌≡◌, arith}
+use Rattle.std.proofs.Common.{arith}
 use Rattle.views.proofs.Parted.{subtracted-none, subtracted-more}
 use Rattle.views.proofs.apart.subtract.Goals as goal
 
 pub loop-k-init : goal.loop-k-init
-loop-k-init c = (omega arith, subtracted-none _ _ _ _ (omega arith))
+loop-k-init c = subtracted-none _ _ _ _ (omega arith)
 
 pub loop-k-preserved : goal.loop-k-preserved
-loop-k-preserved c = (omega arith, subtracted-more _ _ _ _ c.loop-k.invariant.1 (omega arith) _ c.without-word.ensures c.union-any.ensures)
-
-pub returns : goal.returns
-returns c = let e : c.loop-k.k ≡ c.args.n = omega arith in rw e at c.loop-k.invariant.1
+loop-k-preserved c = subtracted-more _ _ _ _ c.loop-k.invariant (omega arith) _ c.without-word.ensures c.union-any.ensures

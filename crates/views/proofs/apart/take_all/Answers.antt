@@ -4,13 +4,12 @@ use Rattle.views.proofs.Parted.{parting-none, parting-all}
 use Rattle.views.proofs.apart.take_all.Goals as goal
 
 pub loop-k-init : goal.loop-k-init
-loop-k-init c = (omega arith, omega arith, λ s d h row. (parting-none h row, λ q l. absurd (omega arith)))
+loop-k-init c = (omega arith, λ s d h row. (parting-none h row, λ q l. absurd (omega arith)))
 
 pub loop-k-preserved : goal.loop-k-preserved
 loop-k-preserved c =
-    let (some, long, p) = c.loop-k.invariant in
+    let p = c.loop-k.invariant.1 in
     let (kept, say) = c.take_key-found.ensures in (
-      omega arith,
       kept,
       λ s d h row.
           let (g, passed) = p s d h row in
@@ -20,5 +19,5 @@ loop-k-preserved c =
 
 pub returns : goal.returns
 returns c = λ s d h row.
-    let (g, passed) = c.loop-k.invariant.2 s d h row in
+    let (g, passed) = c.loop-k.invariant.1 s d h row in
     parting-all h g (λ k l. passed k (omega arith))

@@ -4,12 +4,12 @@ use Rattle.views.proofs.Parted.{row-none, row_more, row-whole}
 use Rattle.views.proofs.apart.take_row.Goals as goal
 
 pub loop-k-init : goal.loop-k-init
-loop-k-init c = (omega arith, omega arith, omega arith, row-none _ _ _)
+loop-k-init c = (omega arith, omega arith, row-none _ _ _)
 
 pub loop-k-preserved : goal.loop-k-preserved
 loop-k-preserved c =
     let turn = c.loop-k.invariant in
-    (omega arith, omega arith, simp length-set turn.2, row_more _ _ _ turn.3 (omega arith) _ c.without.ensures c.union-lacks.ensures c.without-in-loop-k.ensures)
+    (omega arith, simp length-set turn.1, row_more _ _ _ turn.2 (omega arith) _ c.without.ensures c.union-lacks.ensures c.without-in-loop-k.ensures)
 
 pub returns : goal.returns
-returns c = row-whole _ _ _ c.loop-k.invariant.3 (omega arith) (omega arith)
+returns c = row-whole _ _ _ c.loop-k.invariant.2 (omega arith) (omega arith)

@@ -4,10 +4,10 @@ use Rattle.views.proofs.AddsOwn.{own-none, own-more, adds-own-answer}
 use Rattle.views.proofs.masks.adds_own.Goals as goal
 
 pub loop-k-init : goal.loop-k-init
-loop-k-init c = (omega arith, omega arith, own-none _ _ _ _ _)
+loop-k-init c = (omega arith, own-none _ _ _ _ _)
 
 pub loop-k-preserved : goal.loop-k-preserved
-loop-k-preserved c = (omega arith, omega arith, own-more _ _ _ _ _ c.loop-k.invariant.2 _ c.union-own.ensures c.union-all.ensures)
+loop-k-preserved c = (omega arith, own-more _ _ _ _ _ c.loop-k.invariant.1 _ c.union-own.ensures c.union-all.ensures)
 
 pub returns : goal.returns
-returns c = λ s u t made e number kept row fresh. adds-own-answer s u t made _ number _ _ _ _ (omega arith) kept row fresh c.loop-k.invariant.2 (omega arith) (omega arith)
+returns c = λ s u t made e number kept row fresh. adds-own-answer s u t made _ number _ _ _ _ (omega arith) kept row fresh c.loop-k.invariant.1 (omega arith) (omega arith)

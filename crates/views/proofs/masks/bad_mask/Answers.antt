@@ -14,20 +14,17 @@ returns-then-wrong-eq0 c = λ s u e kk km.
 pub returns-then-not-has : goal.returns-then-not-has
 returns-then-not-has c = λ s u e kk km.
     bad-at s u _ e _ (omega arith) (lacks-first s u _ (km.masks _ (omega arith)) (not_so c.if-not-has.true c.has.ensures))
-    (c.loop-k.invariant.1 s u e kk km)
+    (c.loop-k.invariant s u e kk km)
 
 pub returns-then-without-ne0 : goal.returns-then-without-ne0
 returns-then-without-ne0 c = λ s u e kk km.
     bad-at s u _ e _ (omega arith) (holds-other s u _ (km.masks _ (omega arith)) (kk.full _ (omega arith)) (c.type_inv.fresh _).fits (λ z. c.if-without-ne0.true (c.without.ensures ∙ z)))
-    (c.loop-k.invariant.1 s u e kk km)
+    (c.loop-k.invariant s u e kk km)
 
 pub loop-k-preserved : goal.loop-k-preserved
-loop-k-preserved c = (
-  omega arith,
-  λ s u e kk km.
-      below_more _ _ (c.loop-k.invariant.1 s u e kk km)
-      (good-mask s u _ (km.masks _ (omega arith)) (kk.full _ (omega arith)) (taken c.if-not-has.false c.has.ensures) (sym c.without.ensures ∙ c.if-without-ne0.false)),
-)
+loop-k-preserved c = λ s u e kk km.
+    below_more _ _ (c.loop-k.invariant s u e kk km)
+    (good-mask s u _ (km.masks _ (omega arith)) (kk.full _ (omega arith)) (taken c.if-not-has.false c.has.ensures) (sym c.without.ensures ∙ c.if-without-ne0.false))
 
 pub returns : goal.returns
-returns c = λ s u e kk km. bad-nowhere s u _ e (λ l h. c.loop-k.invariant.1 s u e kk km l (omega arith))
+returns c = λ s u e kk km. bad-nowhere s u _ e (λ l h. c.loop-k.invariant s u e kk km l (omega arith))

@@ -1,5 +1,5 @@
 -- `views::masks::bad_mask` meets its contract. The loop's invariant: no key passed has a bad mask. Assumes nothing.
-use Rattle.std.proofs.Common.{◌≡◌, ℕ, ◌-◌, ◌<◌, ◌≤◌, T}
+use Rattle.std.proofs.Common.{◌≡◌, ℕ, ◌<◌, T}
 use Rattle.store.specs.Store.{View, Store}
 use Rattle.store.specs.Refusal.{bad_mask_at}
 use Rattle.state.specs.Keeps.{KeepsKeys, KeepsMasks}
@@ -7,7 +7,4 @@ use Rattle.views.proofs.masks.bad_mask.Given as goal
 
 abbrev pub invariant-loop-k : goal.invariant-loop-k
 invariant-loop-k l =
-    (l.k ≤ l.n) × ((s : Store) (u : View) → s.keys ≡ l.n → KeepsKeys s l.keys → KeepsMasks l.n u l.fresh → (j : ℕ) → j < l.k → ¬ T (bad_mask_at s u j))
-
-abbrev pub decreases-loop-k : goal.decreases-loop-k
-decreases-loop-k l = l.n - l.k
+    (s : Store) (u : View) → s.keys ≡ l.n → KeepsKeys s l.keys → KeepsMasks l.n u l.fresh → (j : ℕ) → j < l.k → ¬ T (bad_mask_at s u j)

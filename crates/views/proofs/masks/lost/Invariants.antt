@@ -1,5 +1,5 @@
 -- `views::masks::lost` meets its contract. The loop's invariant: at the keys passed nothing of the view is lacking. Assumes nothing.
-use Rattle.std.proofs.Common.{◌≡◌, ℕ, ◌-◌, ◌<◌, ◌≤◌}
+use Rattle.std.proofs.Common.{◌≡◌, ℕ, ◌<◌}
 use Rattle.store.specs.Store.{View, Store}
 use Rattle.store.specs.Refusal.{all_of}
 use Rattle.store.specs.View.{IsView}
@@ -10,7 +10,4 @@ use Rattle.views.proofs.masks.lost.Given as goal
 
 abbrev pub invariant-loop-k : goal.invariant-loop-k
 invariant-loop-k l =
-    (l.k ≤ l.n) × ((s : Store) (old u : View) → s.keys ≡ l.n → IsView s old → RowAt l.n l.views l.base old → KeepsMasks l.n u l.fresh → (j : ℕ) → j < l.k → MetAt s (all_of old) u j)
-
-abbrev pub decreases-loop-k : goal.decreases-loop-k
-decreases-loop-k l = l.n - l.k
+    (s : Store) (old u : View) → s.keys ≡ l.n → IsView s old → RowAt l.n l.views l.base old → KeepsMasks l.n u l.fresh → (j : ℕ) → j < l.k → MetAt s (all_of old) u j

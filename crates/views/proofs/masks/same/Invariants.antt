@@ -1,10 +1,7 @@
 -- `views::masks::same` meets its contract. The loop's invariant: nothing is gathered exactly where the masks are the same at the keys passed. Assumes nothing.
-use Rattle.std.proofs.Common.{◌≡◌, ℕ, ◌+◌, ◌-◌, ◌<◌, ◌≤◌, ◌↔◌, get_or}
+use Rattle.std.proofs.Common.{◌≡◌, ℕ, ◌+◌, ◌<◌, ◌↔◌, get_or}
 use Rattle.views.proofs.masks.same.Given as goal
 
 abbrev pub invariant-loop-k : goal.invariant-loop-k
 invariant-loop-k l =
-    (l.k ≤ l.n) × ((l.all ≡ 0) ↔ ((j : ℕ) → j < l.k → get_or l.fresh j 0 ≡ get_or l.masks (l.base + j) 0))
-
-abbrev pub decreases-loop-k : goal.decreases-loop-k
-decreases-loop-k l = l.n - l.k
+    (l.all ≡ 0) ↔ ((j : ℕ) → j < l.k → get_or l.fresh j 0 ≡ get_or l.masks (l.base + j) 0)

@@ -1,5 +1,5 @@
 -- `views::masks::stray` meets its contract. The loop's invariant: no key passed strays. Assumes nothing.
-use Rattle.std.proofs.Common.{◌≡◌, ℕ, ◌-◌, ◌<◌, ◌≤◌, T, List}
+use Rattle.std.proofs.Common.{◌≡◌, ℕ, ◌<◌, T, List}
 use Rattle.store.specs.Store.{View, Store, Commit}
 use Rattle.store.specs.Refusal.{stray_at}
 use Rattle.state.specs.Keeps.{KeepsMasks, KeepsOperations}
@@ -8,7 +8,4 @@ use Rattle.views.proofs.masks.stray.Given as goal
 
 abbrev pub invariant-loop-k : goal.invariant-loop-k
 invariant-loop-k l =
-    (l.k ≤ l.n) × ((s : Store) (old : View) (c : Commit) (values : List ℕ) → s.keys ≡ l.n → RowAt l.n l.views l.base old → KeepsMasks l.n c.view_after l.fresh → KeepsOperations c l.ranks values → (j : ℕ) → j < l.k → ¬ T (stray_at old c j))
-
-abbrev pub decreases-loop-k : goal.decreases-loop-k
-decreases-loop-k l = l.n - l.k
+    (s : Store) (old : View) (c : Commit) (values : List ℕ) → s.keys ≡ l.n → RowAt l.n l.views l.base old → KeepsMasks l.n c.view_after l.fresh → KeepsOperations c l.ranks values → (j : ℕ) → j < l.k → ¬ T (stray_at old c j)

@@ -1,5 +1,5 @@
 -- `views::missing::least_absent` meets its contract. The loop's invariant: nothing is missing at the keys passed. Assumes nothing.
-use Rattle.std.proofs.Common.{◌≡◌, ℕ, ◌-◌, ◌<◌, ◌≤◌, List}
+use Rattle.std.proofs.Common.{◌≡◌, ℕ, ◌<◌, List}
 use Rattle.store.specs.Store.{View, Store, Commit}
 use Rattle.store.specs.Update.{update}
 use Rattle.store.proofs.Missing.{MetAt}
@@ -11,7 +11,4 @@ use Rattle.views.proofs.missing.least_absent.Given as goal
 
 abbrev pub invariant-loop-k : goal.invariant-loop-k
 invariant-loop-k l =
-    (l.k ≤ l.n) × ((s : Store) (u : View) (t : Commit) (values : List ℕ) → Made s u t → s.keys ≡ l.n → KeepsKeys (update s u t) l.keys → KeepsOperations t l.ranks values → RowAt l.n l.masks l.base u → (j : ℕ) → j < l.k → MetAt s (of_written l.ranks) u j)
-
-abbrev pub decreases-loop-k : goal.decreases-loop-k
-decreases-loop-k l = l.n - l.k
+    (s : Store) (u : View) (t : Commit) (values : List ℕ) → Made s u t → s.keys ≡ l.n → KeepsKeys (update s u t) l.keys → KeepsOperations t l.ranks values → RowAt l.n l.masks l.base u → (j : ℕ) → j < l.k → MetAt s (of_written l.ranks) u j

@@ -1,41 +1,11 @@
--- `views::missing::least_by_reader` meets its contract. The invariants are those of `least_by_writer`, by another rule. Assumes nothing.
-use Rattle.std.proofs.Common.{refl, ap, ◌∙◌, arith, below_more}
-use Rattle.state.specs.Answers.{place_of}
-use Rattle.views.proofs.Words.{read_by, unread-by}
-use Rattle.views.proofs.Looking.{looking-all, looking-on, looking-done, looking-found, missing-nowhere}
+-- `views::missing::least_by_reader` meets its contract: what the closure answers is what the rule says. Assumes nothing.
+use Rattle.std.proofs.Common.{◌≡◌, not, eqb, get_or, ◌∙◌, rules}
+use lib.Bits.{bit_and}
+use Rattle.state.specs.Places.{readers_place}
+use Rattle.views.proofs.Words.{read-by}
 use Rattle.views.proofs.missing.least_by_reader.Goals as goal
 
-pub search-init : goal.search-init
-search-init c = (omega arith, refl, λ s u h l b. absurd (omega arith))
-
-pub loop-left-init : goal.loop-left-init
-loop-left-init c = (
-  c.search.invariant.1,
-  omega arith,
-  λ s u h.
-      looking-all s _ u _ (c.type_inv.keys _).fits (h.in-keys.full _ (omega arith)) (h.in-masks _ (omega arith)) c.without-left.ensures,
-)
-
-pub loop-left-preserved : goal.loop-left-preserved
-loop-left-preserved c = (
-  c.loop-left.invariant.0,
-  c.loop-left.invariant.1,
-  λ s u h.
-      looking-on s _ u _ (c.loop-left.invariant.2 s u h) c.loop-left-test.true c.lowest-v.ensures.0 (λ b. unread-by s u _ _ _ _ _ h _ _ b _ c.if-set-versions-ne0.false) c.rest-left.ensures.0,
-)
-
-pub search-preserved : goal.search-preserved
-search-preserved c = (
-  omega arith,
-  c.loop-left.invariant.0,
-  λ s u h.
-      below_more _ _ (c.search.invariant.2 s u h) (looking-done s _ u _ (c.loop-left.invariant.2 s u h) c.loop-left-test.false),
-)
-
-pub returns-after-search : goal.returns-after-search
-returns-after-search c = λ s u h.
-    ap place_of c.search.invariant.1 ∙ missing-nowhere s _ u _ h.number (λ l b. c.search.invariant.2 s u h l (omega arith))
-
-pub returns-then-set-versions-ne0 : goal.returns-then-set-versions-ne0
-returns-then-set-versions-ne0 c = λ s u h.
-    looking-found s _ u _ (c.loop-left.invariant.2 s u h) c.loop-left-test.true c.lowest-v.ensures.0 (λ b. read_by s u _ _ _ _ _ h _ _ b _ c.if-set-versions-ne0.true) (omega arith) (c.search.invariant.2 s u h)
+pub returns : goal.returns
+returns c = λ s u h. c.least.ensures s u _ h.number h.in-keys h.in-masks (λ k v b l p.
+    let e : b ≡ not (eqb (bit_and c.args.set (get_or c.args.versions.now (readers_place k.0 v.0) 0)) 0) = search rules in
+    e ∙ read-by s u _ _ _ _ _ h _ _ l _)

@@ -1,5 +1,5 @@
 -- `views::prefix::split` meets its contract. The sets so far are those of the keys passed. Assumes nothing.
-use Rattle.std.proofs.Common.{◌≡◌, ℕ, ◌-◌, ◌≤◌, List}
+use Rattle.std.proofs.Common.{◌≡◌, ℕ, List}
 use mathlib.Core.Option.{none}
 use Rattle.store.specs.Store.{View, Store}
 use Rattle.store.specs.Refusal.{bad_mask}
@@ -12,10 +12,6 @@ use Rattle.views.proofs.prefix.split.Given as goal
 
 abbrev pub invariant-loop-k : goal.invariant-loop-k
 invariant-loop-k l =
-    (l.k ≤ l.n)
-    × ((s : Store) (old u : View) (masks : List ℕ) (base seen : ℕ) (m : NewMasks s old u l.n l.versions l.keys masks base seen l.fresh) (good : bad_mask s u ≡ none) → Prefixes l.fresh l.n
+    (s : Store) (old u : View) (masks : List ℕ) (base seen : ℕ) (m : NewMasks s old u l.n l.versions l.keys masks base seen l.fresh) (good : bad_mask s u ≡ none) → Prefixes l.fresh l.n
     → IsSet l.held (From (HeldAt s old u l.n l.versions l.keys masks base seen l.fresh m good) l.k)
-    × IsSet l.lacking (From (LackedAt s old u l.n l.versions l.keys masks base seen l.fresh m good) l.k))
-
-abbrev pub decreases-loop-k : goal.decreases-loop-k
-decreases-loop-k l = l.n - l.k
+    × IsSet l.lacking (From (LackedAt s old u l.n l.versions l.keys masks base seen l.fresh m good) l.k)
