@@ -8,6 +8,7 @@ use native.Mathlib.Numerals.{add-one}
 use lib.ListN.{length, take, drop, length-append, length-drop, take-append-drop, drop_of_length-le}
 use lib.Seq.{take_all, take_at, drop-append-add, drop-drop, length-take-le}
 use borrow.Rule.Slice.PartMut.{put_mid}
+use Rattle.std.proofs.lemmas.List.{drop-append-le}
 use Rattle.endian.specs.Endian.{le_bytes, put_at, pieces}
 use Rattle.endian.proofs.Laws.{length-le_bytes, le_bytes-add, le_bytes-mod}
 
@@ -51,6 +52,13 @@ module _ (d : List ℕ) (at : ℕ) where
   part-back a h =
       let l : length (drop at d) ≤ length d - at = le_of_eq (length-drop at d) in
       rw (take_all (length d - at) (drop at d) l, drop_of_length-le (drop at d) l, append-nil (put_at (drop at d) 0 a)) (put-in-part a h)
+
+-- what is put at the start of the first n places of a list is put at the start of the list
+pub put-front : (n : ℕ) (d a : List ℕ) → length a ≤ n → n ≤ length d → put_at (take n d) 0 a ++ drop n d ≡ put_at d 0 a
+put-front n d a few room =
+    append_assoc a (drop (0 + length a) (take n d)) (drop n d)
+    ∙ ap (λ (l : List ℕ). a ++ l)
+    (sym (drop-append-le (0 + length a) (take n d) (drop n d) (omega (arith, length-take-le n d room))) ∙ ap (drop (0 + length a)) (take-append-drop n d))
 
 -- ---- one behind the other
 

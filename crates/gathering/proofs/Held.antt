@@ -7,20 +7,17 @@ use native.Mathlib.Omega.{arith}
 use native.Mathlib.Decide.{ℕ_discrete}
 use lib.Dec.{T}
 use Rattle.sets.specs.Set.{Set, has, insert, union}
-use Rattle.sets.proofs.Laws.{has-none, insert-has, has-insert, insert-self}
+use Rattle.sets.proofs.Laws.{insert-has, has-insert, insert-self}
 use Rattle.endian.specs.Endian.{le_at}
 use Rattle.store.specs.Reading.{key_place}
 use Rattle.reading.specs.Parts.{writer_at}
 use Rattle.reading.specs.Gains.{versions_in}
 use Rattle.reading.proofs.Rows.{union-is}
-use Rattle.gathering.specs.Places.{Gathers, WroteHeld, WroteSeen, KeyReads}
+use Rattle.gathering.specs.Places.{Gathers, WroteHeld, WroteSeen}
 
 -- ---- the versions of a key
 
 module _ (b : List ℕ) (base : ℕ) (mask : Set) where
-  pub held_none : Gathers 0 (WroteHeld b base 0 mask)
-  held_none = record { says = λ a. (λ t. absurd (has-none a t), λ (i, l, t, q). absurd (omega arith)) }
-
   -- version i is held
   pub held_more : (i : ℕ) {found writer more : ℕ} → T (has mask i) → writer ≡ writer_at b base i → more ≡ insert writer found
       → Gathers found (WroteHeld b base i mask) → Gathers more (WroteHeld b base (i + 1) mask)
@@ -44,19 +41,9 @@ module _ (b : List ℕ) (base : ℕ) (mask : Set) where
       into a j l y q (yes z) = absurd (n (subst (λ (m : ℕ). T (has mask m)) z y))
       into a j l y q (no z) = (h.says a).1 (j, omega arith, y, q)
 
-  pub held-done : (i n : ℕ) {found : ℕ} → i ≡ n → Gathers found (WroteHeld b base i mask) → Gathers found (WroteHeld b base n mask)
-  held-done i n {found} e h = subst (λ (m : ℕ). Gathers found (WroteHeld b base m mask)) e h
-
 -- ---- the keys
 
--- the same place in other words
-pub reads-there : (b : List ℕ) {at place : ℕ} → at ≡ place → KeyReads b place → KeyReads b at
-reads-there b e h = subst (KeyReads b) (sym e) h
-
 module _ (b : List ℕ) (masks : ℕ) where
-  pub seen_none : Gathers 0 (WroteSeen b masks 0)
-  seen_none = record { says = λ a. (λ t. absurd (has-none a t), λ (k, l, x). absurd (omega arith)) }
-
   pub seen_more : (k : ℕ) {at count mask found here more : ℕ} → at ≡ key_place b k → count ≡ le_at b at 4 → mask ≡ le_at b (masks + 8 * k) 8 → more ≡ union found here
       → Gathers found (WroteSeen b masks k) → Gathers here (WroteHeld b (at + 4) count mask) → Gathers more (WroteSeen b masks (k + 1))
   seen_more k {at} {count} {mask} {found} {here} {more} p c m e h g = record {
@@ -79,6 +66,3 @@ module _ (b : List ℕ) (masks : ℕ) where
       into : (a j : ℕ) → j < k + 1 → At a j → Dec (j ≡ k) → T (has found a) ⊎ T (has here a)
       into a j l y (yes z) = inr ((g.says a).1 (rw there (subst (At a) z y)))
       into a j l y (no z) = inl ((h.says a).1 (j, omega arith, y))
-
-  pub seen_done : (k n : ℕ) {found : ℕ} → k ≡ n → Gathers found (WroteSeen b masks k) → Gathers found (WroteSeen b masks n)
-  seen_done k n {found} e h = subst (λ (m : ℕ). Gathers found (WroteSeen b masks m)) e h

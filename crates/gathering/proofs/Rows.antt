@@ -2,13 +2,13 @@
 use Prim.Native.Nat.{ℕ, suc, ◌+◌, ◌-◌, ◌*◌, ◌≤◌, ◌<◌}
 use mathlib.Core.Path.{◌≡◌, refl, sym, ap, ap₂, ◌∙◌, subst}
 use mathlib.Core.Logic.{◌↔◌}
-use mathlib.Core.List.{List, [], ◌∷◌}
+use mathlib.Core.List.{List, [], ◌∷◌, ◌++◌}
 use native.Mathlib.Omega.{arith}
 use native.Mathlib.Decide.{dec_lt}
 use native.Mathlib.Nat.{mul-zero, mul-suc, mul-le-mul_left}
 use native.Mathlib.Numerals.{add-one}
 use lib.Dec.{T}
-use lib.ListN.{length, set}
+use lib.ListN.{length, set, take, drop}
 use lib.Seq.{sets-eq}
 use Rattle.search.proofs.Tests.{same_test}
 use Rattle.sets.specs.Set.{Set, has, without}
@@ -16,7 +16,7 @@ use Rattle.sets.proofs.Laws.{single-has, single-only}
 use Rattle.sets.proofs.Algebra.{without_is, same-sets}
 use Rattle.endian.specs.Endian.{put_at, pieces}
 use Rattle.endian.proofs.Laws.{length-pieces}
-use Rattle.endian.proofs.Put.{put-none, length-put, put-piece}
+use Rattle.endian.proofs.Put.{put-none, length-put, put-piece, put-front}
 use Rattle.store.specs.Store.{Key, CommitNumber, Store}
 use Rattle.store.specs.Reading.{image_keys, image_commits, commit_place, key_place, store_of}
 use Rattle.store.specs.Sound.{SoundStore}
@@ -147,6 +147,12 @@ filled_more s d i word {table} l f e r =
     put-piece d 0 i i (λ j. row s (suc j) ∷ []) f (length-pieces i 1 (λ j. row s (suc j) ∷ []) (λ j. refl) ∙ omega arith) (omega arith)
     (e ∙ set-put table i word (omega arith)) (ap (λ (m : ℕ). m ∷ []) r)
 
-pub filled-all : (b : List ℕ) (d : List Set) (i : ℕ) {table : List Set} → i ≡ image_commits b → Filled (store_of b) d i table → table ≡ put_at d 0 (rows (store_of b))
+-- all n of them, in the first n places
+pub filled-all : (b : List ℕ) (d : List Set) (n i : ℕ) {table : List Set} → n ≤ length d → n ≡ image_commits b → i ≡ n → Filled (store_of b) (take n d) i table
+    → table ++ drop n d ≡ put_at d 0 (rows (store_of b))
 unfolding rows store_of
-filled-all b d i e f = f ∙ ap (λ (n : ℕ). put_at d 0 (pieces n (λ j. row (store_of b) (suc j) ∷ []))) e
+filled-all b d n i room e all f =
+    let few = length-pieces i 1 (λ j. row (store_of b) (suc j) ∷ []) (λ j. refl) in
+    ap (λ (t : List Set). t ++ drop n d) f
+    ∙ put-front n d (pieces i (λ j. row (store_of b) (suc j) ∷ [])) (omega arith) room
+    ∙ ap (λ (m : ℕ). put_at d 0 (pieces m (λ j. row (store_of b) (suc j) ∷ []))) (all ∙ e)

@@ -17,12 +17,10 @@ fn writers_held(image: &[u8], base: usize, n: usize, mask: u64) -> u64
     ensures { Gathers result (WroteHeld image.now base n mask) }
 {
     let mut found = 0u64;
-    let mut i: usize = 0;
-    while i < n {
+    for i in 0..n {
         if sets::has(mask, i) {
             found = sets::insert(found, endian::byte_at(image, base + 16 * i + 4));
         }
-        i = i + 1;
     }
     found
 }
@@ -35,13 +33,11 @@ fn writers_seen(image: &[u8], start: usize, n: usize, masks: usize) -> u64
 {
     let mut found = 0u64;
     let mut at = start;
-    let mut k: usize = 0;
-    while k < n {
+    for k in 0..n {
         let count = endian::u32_at(image, at) as usize;
         let mask = endian::u64_at(image, masks + 8 * k);
         found = sets::union(found, writers_held(image, at + 4, count, mask));
         at = at + (4 + 16 * count);
-        k = k + 1;
     }
     found
 }
@@ -56,10 +52,8 @@ pub fn fill(image: &[u8], table: &mut [u64])
     let step = 8 + 8 * n;
     let start = 8 + step * count;
     let mut masks: usize = 16;
-    let mut i: usize = 0;
-    while i < count {
-        table[i] = sets::without(writers_seen(image, start, n, masks), 1);
+    for row in table[..count].iter_mut() {
+        *row = sets::without(writers_seen(image, start, n, masks), 1);
         masks = masks + step;
-        i = i + 1;
     }
 }

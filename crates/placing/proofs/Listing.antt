@@ -5,12 +5,11 @@ use mathlib.Core.Option.{Option, some, none}
 use mathlib.Core.List.{List, [], ◌∷◌, ◌++◌, append_assoc, append-nil}
 use native.Mathlib.Omega.{arith}
 use native.Mathlib.Nat.{sub-zero}
-use lib.ListN.{length, set, take, drop, length-append, take-append-drop}
+use lib.ListN.{length, set, take, drop, length-append}
 use lib.Seq.{length-take-le}
-use Rattle.std.proofs.lemmas.List.{drop-append-le}
 use Rattle.sets.specs.Set.{Set, insert}
 use Rattle.endian.specs.Endian.{put_at}
-use Rattle.endian.proofs.Put.{put-none, put_next, length-put}
+use Rattle.endian.proofs.Put.{put-none, put_next, length-put, put-front}
 use Rattle.text.proofs.Put.{put_one}
 use Rattle.relations.specs.Relation.{Relation}
 use Rattle.ordering.specs.Placing.{lowest_ready, and_then, place_next, lowest_ready_first, placed_with}
@@ -27,13 +26,6 @@ placed-last : (done : List ℕ) (c : ℕ) (placed : Set) → placed_with (done +
 unfolding placed_with
 placed-last [] c placed = refl
 placed-last (d ∷ done) c placed = placed-last done c (insert d placed)
-
--- what is put at the start of the first n places of a list is put at the start of the list
-put-front : (n : ℕ) (d bs : List ℕ) → length bs ≤ n → n ≤ length d → put_at (take n d) 0 bs ++ drop n d ≡ put_at d 0 bs
-put-front n d bs few room =
-    append_assoc bs (drop (0 + length bs) (take n d)) (drop n d)
-    ∙ ap (λ (l : List ℕ). bs ++ l)
-    (sym (drop-append-le (0 + length bs) (take n d) (drop n d) (omega (arith, length-take-le n d room))) ∙ ap (drop (0 + length bs)) (take-append-drop n d))
 
 module _ (n : ℕ) (r : Relation) (d : List ℕ) (room : n ≤ length d) where
   pub listed_start : Listed n r (take n d) (take n d) 0 0
