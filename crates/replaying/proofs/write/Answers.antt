@@ -25,8 +25,11 @@ returns-in-Refused c =
     let buffer = c.args.buffer.now in
     let a = refused-replay file buffer _ (says-refused _ _ _ _ _ c.take.ensures.4 c.in-Refused.is) in record { answer = a.said; written = a.left; back = subst (ReadsBack file (length buffer)) (sym a.left) (reads-back file (bytes (goal.at.returns-in-Refused c).After-take) buffer); longest = replay-fits file (bytes (goal.at.returns-in-Refused c).After-take) }
 
-pub returns-in-Taken : goal.returns-in-Taken
-returns-in-Taken c =
+pub returns-in-Taken-clause-back : goal.returns-in-Taken-clause-back
+returns-in-Taken-clause-back c =
     let file = c.args.file.now in
     let buffer = c.args.buffer.now in
-    let a = c.finish.ensures in record { answer = a.0; written = a.1; back = subst (ReadsBack file (length buffer)) (sym a.1) (reads-back file (bytes (goal.at.returns-in-Taken c).After-take) buffer); longest = replay-fits file (bytes (goal.at.returns-in-Taken c).After-take) }
+    subst (ReadsBack file (length buffer)) (sym c.finish.ensures.1) (reads-back file (bytes (goal.at.returns-in-Taken-clause-back c).After-take) buffer)
+
+pub returns-in-Taken-clause-longest : goal.returns-in-Taken-clause-longest
+returns-in-Taken-clause-longest c = replay-fits c.args.file.now (bytes (goal.at.returns-in-Taken-clause-longest c).After-take)
