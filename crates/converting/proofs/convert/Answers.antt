@@ -30,8 +30,9 @@ returns-in-Refused c =
     let buffer = c.args.buffer.now in
     let a = refused-file (edition (goal.at.returns-in-Refused c).After-take) file buffer _ (says-refused _ _ _ _ _ c.take.ensures.4 c.in-Refused.is) in record { answer = a.said; written = a.left; same = subst (WrittenSame (edition (goal.at.returns-in-Refused c).After-take) file (length buffer)) (sym a.left) (written_same (edition (goal.at.returns-in-Refused c).After-take) file (bytes (goal.at.returns-in-Refused c).After-take) buffer) }
 
-pub returns-in-Taken : goal.returns-in-Taken
-returns-in-Taken c =
+pub returns-in-Taken-clause-same : goal.returns-in-Taken-clause-same
+returns-in-Taken-clause-same c =
     let file = c.args.file.now in
     let buffer = c.args.buffer.now in
-    let a = c.finish.ensures in record { answer = a.0; written = a.1; same = subst (WrittenSame (edition (goal.at.returns-in-Taken c).After-take) file (length buffer)) (sym a.1) (written_same (edition (goal.at.returns-in-Taken c).After-take) file (bytes (goal.at.returns-in-Taken c).After-take) buffer) }
+    let e = edition (goal.at.returns-in-Taken-clause-same c).After-take in
+    subst (WrittenSame e file (length buffer)) (sym c.finish.ensures.1) (written_same e file (bytes (goal.at.returns-in-Taken-clause-same c).After-take) buffer)
