@@ -28,24 +28,24 @@ module _ (s : List ℕ) where
   unfolding operations_at keys_after
   keys-done j at left e = rw e refl
 
-  -- one more of the m operations from `start` on
-  module _ (start m i j : ℕ) (more : i < m) where
-    after-one : operations_at s (start + 8 * i) (m - i) ≡ operation_at s (start + 8 * i) ∷ operations_at s (start + 8 * (i + 1)) (m - (i + 1))
+  -- the m operations from `start` on, once i of them are passed
+  module _ (start m i : ℕ) (more : i < m) where
+    pub after-one : operations_at s (start + 8 * i) (m - i) ≡ operation_at s (start + 8 * i) ∷ operations_at s (start + 8 * (i + 1)) (m - (i + 1))
     unfolding operations_at
     after-one =
         let left : m - i ≡ suc (m - (i + 1)) = omega arith in
         let next : start + 8 * i + 8 ≡ start + 8 * (i + 1) = omega arith in
         rw (left, next)
 
-    pub keys-same : le_at s (start + 8 * i + 1) 1 ≡ j
+    pub keys-same : (j : ℕ) → le_at s (start + 8 * i + 1) 1 ≡ j
         → keys_after j (operations_at s (start + 8 * i) (m - i)) ≡ keys_after (le_at s (start + 8 * i + 1) 1) (operations_at s (start + 8 * (i + 1)) (m - (i + 1)))
     unfolding keys_after choose
-    keys-same e = rw (after-one, eq-eqb (le_at s (start + 8 * i + 1) 1) j e) (omega arith)
+    keys-same j e = rw (after-one, eq-eqb (le_at s (start + 8 * i + 1) 1) j e) (omega arith)
 
-    pub keys-other : le_at s (start + 8 * i + 1) 1 ≢ j
+    pub keys-other : (j : ℕ) → le_at s (start + 8 * i + 1) 1 ≢ j
         → keys_after j (operations_at s (start + 8 * i) (m - i)) ≡ suc (keys_after (le_at s (start + 8 * i + 1) 1) (operations_at s (start + 8 * (i + 1)) (m - (i + 1))))
     unfolding keys_after choose
-    keys-other e = rw (after-one, ne_eqb (le_at s (start + 8 * i + 1) 1) j e) (omega arith)
+    keys-other j e = rw (after-one, ne_eqb (le_at s (start + 8 * i + 1) 1) j e) (omega arith)
 
 -- ---- a set within the keys
 

@@ -1,7 +1,7 @@
 -- The keys of operations, gathered into a set one operation after the other. Assumes nothing.
 use Prim.Native.Nat.{ℕ, suc, ◌+◌, ◌-◌, ◌*◌, ◌^◌, ◌≤◌, ◌<◌}
 use mathlib.Core.Path.{◌≡◌, refl, sym, ap, ◌∙◌}
-use mathlib.Core.Bool.{Bool, true, false, ◌&&◌, ◌||◌}
+use mathlib.Core.Bool.{Bool, true, false, ◌||◌}
 use mathlib.Core.List.{List}
 use native.Mathlib.Omega.{arith}
 use lib.Dec.{T, eqb, eqb→eq}
@@ -23,6 +23,7 @@ use Rattle.trace.specs.Meaning.{OperationsFit}
 use Rattle.trace.specs.WellFormed.{Rise}
 use Rattle.trace.proofs.Tests.{operation_fits-is}
 use Rattle.trace.proofs.Listed.{touched-key, keys_in-how_many}
+use Rattle.trace.proofs.Counted.{after-one}
 
 -- of the m operations from `start` on, the keys of the first i are in a set
 pub record Gathered (s : List ℕ) (start m : ℕ) (listed : Set) (i : ℕ) : Type 0 where
@@ -53,42 +54,29 @@ second-first false true c = refl
 second-first false false c = refl
 
 module _ {s : List ℕ} {start m i : ℕ} {listed : Set} (h : Gathered s start m listed i) (more : i < m) where
-  at : ℕ
+  abbrev at : ℕ
   at = start + 8 * i
 
-  next : ℕ
-  next = start + 8 * (i + 1)
+  -- those behind the next one
+  abbrev others : List Operation
+  others = operations_at s (start + 8 * (i + 1)) (m - (i + 1))
 
-  left : ℕ
-  left = m - (i + 1)
-
-  one_left : m - i ≡ suc left
-  unfolding left
-  one_left = omega arith
-
-  next_at : at + 8 ≡ next
-  unfolding at next
-  next_at = omega arith
-
-  first-and-others : T (operation_fits s at h.keys h.low) × T (operations_fit s next h.keys (suc (rank_at s at)) left)
-  unfolding operations_fit at
+  first-and-others : T (operation_fits s at h.keys h.low) × T (operations_fit s (start + 8 * (i + 1)) h.keys (suc (rank_at s at)) (m - (i + 1)))
+  unfolding operations_fit
   first-and-others =
-      and_yes (operation_fits s at h.keys h.low) (operations_fit s next h.keys (suc (rank_at s at)) left)
-      (true-T _ (ap (λ (p : ℕ). operation_fits s at h.keys h.low && operations_fit s p h.keys (suc (rank_at s at)) left) (sym next_at) ∙ ap (operations_fit s at h.keys h.low) (sym one_left) ∙ h.fit))
+      let left : m - i ≡ suc (m - (i + 1)) = omega arith in
+      let next : at + 8 ≡ start + 8 * (i + 1) = omega arith in
+      and_yes _ _ (rw (left, next) at (true-T _ h.fit))
 
   -- the key of the next operation is one of the store
   pub gathered-key : le_at s (start + 8 * i + 1) 1 < max_keys
-  unfolding at
   gathered-key = let (access, key, zeros, rises) = (operation_fits-is s at h.keys h.low).0 first-and-others.0 in let few = h.few in omega arith
 
-  next-touched : (k : ℕ) → touched (operations_at s at (m - i)) k ≡ (eqb (le_at s (at + 1) 1) k || touched (operations_at s next left) k)
-  unfolding operations_at touched
-  next-touched k =
-      ap (λ (n : ℕ). touched (operations_at s at n) k) one_left
-      ∙ ap (λ (p : ℕ). eqb (le_at s (at + 1) 1) k || touched (operations_at s p left) k) next_at
+  next-touched : (k : ℕ) → touched (operations_at s at (m - i)) k ≡ (eqb (le_at s (at + 1) 1) k || touched others k)
+  unfolding touched
+  next-touched k = ap (λ (os : List Operation). touched os k) (after-one s start m i more)
 
   pub gathered-more : {key : ℕ} {after : Set} → key ≡ le_at s (start + 8 * i + 1) 1 → after ≡ insert key listed → Gathered s start m after (i + 1)
-  unfolding at next left
   gathered-more {key} is_key is-after = rw (is-after, is_key) (record {
     keys = h.keys;
     few = h.few;
@@ -96,8 +84,8 @@ module _ {s : List ℕ} {start m i : ℕ} {listed : Set} (h : Gathered s start m
     fit = T_true _ first-and-others.1;
     within = h.within;
     all = λ k.
-        ap (λ (b : Bool). b || touched (operations_at s next left) k) (has-insert-is (le_at s (at + 1) 1) listed k ∙ ap (λ (b : Bool). b || has listed k) (either_way k))
-        ∙ second-first (eqb (le_at s (at + 1) 1) k) (has listed k) (touched (operations_at s next left) k)
+        ap (λ (b : Bool). b || touched others k) (has-insert-is (le_at s (at + 1) 1) listed k ∙ ap (λ (b : Bool). b || has listed k) (either_way k))
+        ∙ second-first (eqb (le_at s (at + 1) 1) k) (has listed k) (touched others k)
         ∙ ap (λ (b : Bool). has listed k || b) (sym (next-touched k))
         ∙ h.all k;
   })

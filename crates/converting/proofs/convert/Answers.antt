@@ -33,8 +33,9 @@ returns-in_err-taken c =
     let p = err_from_is_err_and c.from_residual.result c.from_residual.ensures.1 in
     record { answer = rw (p.1, p.2) a.said; written = a.left; same = subst (WrittenSame (edition (goal.at.returns-in_err-taken c).After-take) file (length buffer)) (sym a.left) (written_same (edition (goal.at.returns-in_err-taken c).After-take) file (bytes (goal.at.returns-in_err-taken c).After-take) buffer) }
 
-pub returns : goal.returns
-returns c =
+pub returns-clause-same : goal.returns-clause-same
+returns-clause-same c =
     let file = c.args.file.now in
     let buffer = c.args.buffer.now in
-    let a = c.finish.ensures in record { answer = a.0; written = a.1; same = subst (WrittenSame (edition (goal.at.returns c).After-take) file (length buffer)) (sym a.1) (written_same (edition (goal.at.returns c).After-take) file (bytes (goal.at.returns c).After-take) buffer) }
+    let e = edition (goal.at.returns-clause-same c).After-take in
+    subst (WrittenSame e file (length buffer)) (sym c.finish.ensures.1) (written_same e file (bytes (goal.at.returns-clause-same c).After-take) buffer)

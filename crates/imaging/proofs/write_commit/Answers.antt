@@ -14,18 +14,16 @@ use Rattle.state.specs.Rows.{RowAt}
 use Rattle.imaging.proofs.Words.{commit-kept, stored_row-at}
 use Rattle.imaging.proofs.write_commit.Goals as goal
 
-pub returns : goal.returns
-returns c =
+pub returns-clause-part_after : goal.returns-clause-part_after
+returns-clause-part_after c =
     let a = c.args in
     let part = a.part.now in
-    let word = le_bytes 8 (get_or a.commits.now a.t.0 0) in record {
-      value = refl;
-      part_after = λ s kc kv fit keys p l.
-          let u = s.view_of a.t.0 in
-          let base = client_rows + max_keys * a.t.0 in
-          let row = subst (λ (n : ℕ). RowAt n a.views.now base u) keys (stored_row-at s a.views.now a.t.0 base kv p l (omega arith)) in
-          put_next part 0 8 8 word (view_bytes a.n u) c.put_u64.ensures (length-le_bytes 8 _) refl (omega arith)
-          (c.put_masks.ensures u row)
-          ∙ ap (λ (n : ℕ). put_at part 0 (word ++ view_bytes n u)) (sym keys)
-          ∙ ap (λ (b : List ℕ). put_at part 0 b) (commit-kept s a.commits.now a.t.0 kc fit p l);
-    }
+    let word = le_bytes 8 (get_or a.commits.now a.t.0 0) in
+    λ s kc kv fit keys p l.
+    let u = s.view_of a.t.0 in
+    let base = client_rows + max_keys * a.t.0 in
+    let row = subst (λ (n : ℕ). RowAt n a.views.now base u) keys (stored_row-at s a.views.now a.t.0 base kv p l (omega arith)) in
+    put_next part 0 8 8 word (view_bytes a.n u) c.put_u64.ensures (length-le_bytes 8 _) refl (omega arith)
+    (c.put_masks.ensures u row)
+    ∙ ap (λ (n : ℕ). put_at part 0 (word ++ view_bytes n u)) (sym keys)
+    ∙ ap (λ (b : List ℕ). put_at part 0 b) (commit-kept s a.commits.now a.t.0 kc fit p l)

@@ -28,8 +28,11 @@ returns-in_err-taken c =
     let p = err_from_is_err_and c.from_residual.result c.from_residual.ensures.1 in
     record { answer = rw (p.1, p.2) a.said; written = a.left; back = subst (ReadsBack file (length buffer)) (sym a.left) (reads-back file (bytes (goal.at.returns-in_err-taken c).After-take) buffer); longest = replay-fits file (bytes (goal.at.returns-in_err-taken c).After-take) }
 
-pub returns : goal.returns
-returns c =
+pub returns-clause-back : goal.returns-clause-back
+returns-clause-back c =
     let file = c.args.file.now in
     let buffer = c.args.buffer.now in
-    let a = c.finish.ensures in record { answer = a.0; written = a.1; back = subst (ReadsBack file (length buffer)) (sym a.1) (reads-back file (bytes (goal.at.returns c).After-take) buffer); longest = replay-fits file (bytes (goal.at.returns c).After-take) }
+    subst (ReadsBack file (length buffer)) (sym c.finish.ensures.1) (reads-back file (bytes (goal.at.returns-clause-back c).After-take) buffer)
+
+pub returns-clause-longest : goal.returns-clause-longest
+returns-clause-longest c = replay-fits c.args.file.now (bytes (goal.at.returns-clause-longest c).After-take)

@@ -25,9 +25,6 @@ read c = (accepted-trace _ _ c.requires.accepted).0
 size_is : (c : goal.After-size-whole) → c.size-whole.result ≡ length (encode_in (edition c) c.requires.trace)
 size_is c = c.size-whole.ensures _ (read c)
 
-pub size-whole-requires : goal.size-whole-requires
-size-whole-requires c = c.requires.in-form
-
 pub returns-then-whole-gt-BYTES : goal.returns-then-whole-gt-BYTES
 unfolding convert_answer
 returns-then-whole-gt-BYTES c =
@@ -48,9 +45,6 @@ put_head-requires c =
     let size = size_is (goal.at.put_head-requires c).After-size-whole in
     let least = file-least (edition (goal.at.put_head-requires c).After-size-whole) c.requires.trace in
     (omega arith, omega arith, w.few-keys, w.few-clients, w.few-records)
-
-pub write-requires : goal.write-requires
-write-requires c = (c.requires.in-form, λ t d. let size = c.size-whole.ensures t d in omega arith)
 
 pub returns : goal.returns
 unfolding convert_answer

@@ -12,11 +12,12 @@ put_shift-requires c =
     let room = long-shift-length c.args.file.now c.args.n is c.requires.x_in_bounds.0 in
     (c.requires.n_le_max_keys.0, (shift-parts _ _ is c.requires.n_le_max_keys.1).0, omega arith, omega (arith, c.requires.x_in_bounds.1))
 
-pub put_commit-requires : goal.put_commit-requires
-put_commit-requires c =
+pub put_commit-requires-clause-count_in_bounds : goal.put_commit-requires-clause-count_in_bounds
+put_commit-requires-clause-count_in_bounds c =
     let is = c.in-Commit.is in
     let (below, listing, operations) = commit-parts _ _ is c.requires.n_le_max_keys.1 in
-    let room = long-commit-length c.args.file.now c.args.n is c.requires.x_in_bounds.0 in record { n_le_max_keys = (c.requires.n_le_max_keys.0, below, omega arith); count_in_bounds = (operations.0, operations.1, omega (arith, c.requires.x_in_bounds.1)) }
+    let room = long-commit-length c.args.file.now c.args.n is c.requires.x_in_bounds.0 in
+    (operations.0, operations.1, omega (arith, c.requires.x_in_bounds.1))
 
 pub returns-in-Shift : goal.returns-in-Shift
 returns-in-Shift c =

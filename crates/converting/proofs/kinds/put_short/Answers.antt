@@ -20,13 +20,14 @@ put_short_shift-requires c =
     let long = short-shift-length a.file.now a.n is g in
     (c.requires.n_le_max_keys.0, (shift-parts a.file.now a.n is c.requires.n_le_max_keys.1).0, omega arith, subst (λ s. s < 2 ^ a.n) (sym same) (changed-small _ _ _), omega arith)
 
-pub put_short_commit-requires : goal.put_short_commit-requires
-put_short_commit-requires c =
+pub put_short_commit-requires-clause-count_in_bounds : goal.put_short_commit-requires-clause-count_in_bounds
+put_short_commit-requires-clause-count_in_bounds c =
     let a = c.args in
     let is = c.in-Commit.is in
     let (g, m, room) = c.requires.meant in
     let (below, listing, operations) = commit-parts a.file.now a.n is c.requires.n_le_max_keys.1 in
-    let long = short-commit-length a.file.now a.n is (λ i. (c.type_inv.file i).fits) c.requires.n_le_max_keys.1 g in record { n_le_max_keys = (c.requires.n_le_max_keys.0, below, omega arith); count_in_bounds = (operations.0, operations.1, omega arith) }
+    let long = short-commit-length a.file.now a.n is (λ i. (c.type_inv.file i).fits) c.requires.n_le_max_keys.1 g in
+    (operations.0, operations.1, omega arith)
 
 pub returns-in-Shift : goal.returns-in-Shift
 returns-in-Shift c =

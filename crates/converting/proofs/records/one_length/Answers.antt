@@ -1,39 +1,21 @@
 -- `converting::records::one_length` meets its contract. Assumes nothing.
-use mathlib.Core.Path.{◌≡◌, sym, subst}
+use mathlib.Core.Path.{◌≡◌}
 use native.Mathlib.Omega.{arith}
 use lib.ListN.{length}
 use Rattle.store.specs.Limits.{max_keys}
-use Rattle.trace.specs.Meaning.{ListingFits}
-use Rattle.converting.proofs.Going.{parts-both, meant, rows_on}
+use Rattle.converting.proofs.Going.{meant, rows_on}
 use Rattle.converting.proofs.records.one_length.Goals as goal
 
-pub overflow_mul-base : goal.overflow_mul-base
-overflow_mul-base c = omega (arith, (parts-both c.args.file.now c.args.n c.args.x c.requires.1).0, c.client_of-base.ensures)
-
-pub fill-requires : goal.fill-requires
-fill-requires c =
-    let (below, listing) = parts-both c.args.file.now c.args.n c.args.x c.requires.1 in
-    let is = c.client_of-base.ensures in
-    (subst (ListingFits c.args.file.now c.args.n) (sym c.listing_of.ensures) listing, omega arith, omega arith, c.requires.0)
-
-pub length_in-size-requires : goal.length_in-size-requires
-length_in-size-requires c =
-    let below = (parts-both c.args.file.now c.args.n c.args.x c.requires.1).0 in
-    let is = c.client_of-base.ensures in
-    (c.requires.0, c.requires.1, omega arith, omega arith)
-
-pub keep-requires : goal.keep-requires
-keep-requires c =
-    let below = (parts-both c.args.file.now c.args.n c.args.x c.requires.1).0 in
-    let is = c.client_of-base.ensures in
-    (omega arith, omega arith)
-
-pub returns : goal.returns
-returns c =
+pub returns-clause-reckoned : goal.returns-clause-reckoned
+returns-clause-reckoned c =
     let a = c.args in
     let put = c.fill in
-    let client = c.client_of-base.ensures in
-    let listing = c.listing_of.ensures in
-    let fresh = put.new.masks in
-    let long : length fresh ≡ max_keys = omega arith in
-    let found = c.length_in-size.ensures in record { few = found.few; reckoned = λ g rows. found.reckoned g (meant a.file.now a.n a.x c.requires.1 a.views.now fresh client listing long put.ensures.read g rows); on = λ g rows. rows_on a.file.now a.n a.x c.requires.1 a.views.now fresh client listing long put.ensures.read g rows c.requires.0 c.keep.ensures }
+    let long : length put.new.masks ≡ max_keys = omega arith in
+    λ g rows. c.length_in-size.ensures.reckoned g (meant a.file.now a.n a.x c.requires.1 a.views.now put.new.masks c.client_of-base.ensures c.listing_of.ensures long put.ensures.read g rows)
+
+pub returns-clause-on : goal.returns-clause-on
+returns-clause-on c =
+    let a = c.args in
+    let put = c.fill in
+    let long : length put.new.masks ≡ max_keys = omega arith in
+    λ g rows. rows_on a.file.now a.n a.x c.requires.1 a.views.now put.new.masks c.client_of-base.ensures c.listing_of.ensures long put.ensures.read g rows c.requires.0 c.keep.ensures

@@ -39,9 +39,6 @@ one_length-sum-requires c =
     let s = l.1 _ w.decoded in
     (w.few-keys, this-parts (edition_of c.args.edition) s.going (bytes (goal.at.one_length-sum-requires c).After-known_at-known) w.few-clients (some_left (goal.at.one_length-sum-requires c).After-known_at-known) _ _ (says (goal.at.one_length-sum-requires c).After-known_at-known), omega arith, omega arith)
 
-pub overflow_add-sum : goal.overflow_add-sum
-overflow_add-sum c = omega (arith, c.one_length-sum.ensures.few, c.loop.invariant.0, c.requires.few-records)
-
 pub loop-preserved : goal.loop-preserved
 loop-preserved c =
     let w = c.requires in

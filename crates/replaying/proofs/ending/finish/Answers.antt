@@ -38,9 +38,6 @@ returns-in-Err c =
     let a = not-serial-replay c.args.file.now c.args.buffer.now c.requires.trace c.requires.accepted _ (sym (ap verdict_of c.in-Err.is) ∙ c.requires.told) in
     (ap refused c.of_version.ensures ∙ a.said, a.left)
 
-pub size-whole-requires : goal.size-whole-requires
-size-whole-requires c = c.requires.in-form
-
 pub returns-then-buffer-whole : goal.returns-then-buffer-whole
 unfolding replay_answer
 returns-then-buffer-whole c =
@@ -54,10 +51,6 @@ put_head-requires c =
     let size = size_is (goal.at.put_head-requires c).After-size-whole in
     let least = replay-least c.requires.trace in
     (omega arith, omega (arith, c.size-whole.ensures.1), w.few-keys, w.few-clients, omega (arith, c.requires.few-commits))
-
-pub write-requires : goal.write-requires
-write-requires c =
-    (c.requires.in-form, λ t d. let size = c.size-whole.ensures.0 t d in omega arith)
 
 pub returns : goal.returns
 unfolding replay_answer

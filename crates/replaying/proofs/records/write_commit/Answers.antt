@@ -1,5 +1,4 @@
 -- `replaying::records::write_commit` meets its contract: the shift is to the full view before, and the view after the commit has its own versions. Assumes nothing.
-use mathlib.Core.Path.{◌∙◌}
 use native.Mathlib.Omega.{arith}
 use Rattle.store.specs.Store.{Commit, write}
 use Rattle.trace.specs.Format.{operations_at}
@@ -13,24 +12,15 @@ grow-requires c =
     let (r, room, full) = p.commits_lt_max_commits in
     (p.n_le_max_keys.0, omega (arith, p.n_le_max_keys), small_mask r.store _ _ full room)
 
-pub put_commit-requires : goal.put_commit-requires
-put_commit-requires c =
-    let p = c.requires in record {
-      n_le_max_keys = (p.n_le_max_keys.0, p.n_le_max_keys.3, omega (arith, p.n_le_max_keys));
-      count_in_bounds = (p.operations_fit.0, p.operations_fit.1, omega (arith, p.n_le_max_keys.4, c.put_shift-next.ensures.value));
-    }
-
-pub returns : goal.returns
-returns c =
+pub returns-clause-wrote : goal.returns-clause-wrote
+returns-clause-wrote c =
     let a = c.args in
-    let next = c.put_shift-next.ensures.value in record {
-      value = c.put_commit.ensures.value ∙ omega arith;
-      wrote = λ r u full.
-          let made : Commit = record { client = a.client; session = a.session; operations = operations_at a.file.now a.operations a.count; view_after = u } in
-          let after = full-after r made a.n a.full.now full _ _ (c.sort_operations-ranks.ensures write) c.grow.new.full c.grow.ensures in
-          let row = row_written r made a.n a.full.now full _ _ (c.sort_operations-ranks.ensures write) c.grow.new.full c.grow.ensures in
-          record {
-            put = put_both a.n r made a.buffer.now a.at next (omega (arith, c.requires.n_le_max_keys.4)) (c.put_shift-next.ensures.buffer_after _ full.row) (c.put_commit.ensures.buffer_after _ row);
-            full = after;
-          };
+    let next = c.put_shift-next.ensures.value in
+    λ r u full.
+    let made : Commit = record { client = a.client; session = a.session; operations = operations_at a.file.now a.operations a.count; view_after = u } in
+    let after = full-after r made a.n a.full.now full _ _ (c.sort_operations-ranks.ensures write) c.grow.new.full c.grow.ensures in
+    let row = row_written r made a.n a.full.now full _ _ (c.sort_operations-ranks.ensures write) c.grow.new.full c.grow.ensures in
+    record {
+      put = put_both a.n r made a.buffer.now a.at next (omega (arith, c.requires.n_le_max_keys.4)) (c.put_shift-next.ensures.buffer_after _ full.row) (c.put_commit.ensures.buffer_after _ row);
+      full = after;
     }

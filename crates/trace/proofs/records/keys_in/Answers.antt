@@ -19,9 +19,9 @@ loop-i-preserved c =
     let key = c.byte_at-key.ensures.0 in
     elim c.if-key-last.branch [
       | then-key-last w ↦
-          rw key (omega (arith, w.count-is), omega (arith, w.count-is, keys-other a.s.now a.start a.m l.i l.last (omega arith) (λ e. w.if-key-last.true (key ∙ e))))
+          rw key (omega (arith, w.count-is), omega (arith, w.count-is, keys-other a.s.now a.start a.m l.i (omega arith) l.last (λ e. w.if-key-last.true (key ∙ e))))
       | else-key-last w ↦
-          rw key (omega (arith, w.count-is), omega (arith, w.count-is, keys-same a.s.now a.start a.m l.i l.last (omega arith) (sym key ∙ w.if-key-last.false)))
+          rw key (omega (arith, w.count-is), omega (arith, w.count-is, keys-same a.s.now a.start a.m l.i (omega arith) l.last (sym key ∙ w.if-key-last.false)))
     ]
 
 pub returns : goal.returns
