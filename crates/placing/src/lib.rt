@@ -42,13 +42,10 @@ fn lowest_ready(rows: &[u64], n: usize, placed: u64) -> usize
     requires { (length rows.now ≡ numbers) × (n ≤ max_commits) × Between n (links_in rows.now) }
     ensures { (result ≡ or_zero (lowest_ready n (links_in rows.now) placed)) × (result ≤ n) }
 {
-    let mut left = unplaced(n, placed);
-    while left != 0 {
-        let c = sets::lowest(left);
+    for c in sets::Members(unplaced(n, placed)) {
         if sets::without(rows[c], placed) == 0 {
             return c;
         }
-        left = sets::rest(left);
     }
     0
 }
