@@ -2,7 +2,7 @@
 use Prim.Native.Nat.{ℕ, suc, ◌^◌, ◌≤◌, ◌<◌}
 use mathlib.Core.Path.{◌≡◌, sym, ap, ◌∙◌, subst}
 use mathlib.Core.Bool.{not}
-use mathlib.Core.Logic.{◌↔◌, ◌≢◌}
+use mathlib.Core.Logic.{inr, ⊎_elim, ◌↔◌, ◌≢◌}
 use mathlib.Core.Option.{some, none}
 use mathlib.Core.List.{List}
 use native.Mathlib.Omega.{arith}
@@ -12,9 +12,9 @@ use lib.ListN.{get_or}
 use Rattle.search.specs.Search.{any}
 use Rattle.search.proofs.Tests.{same, both, and_is, not_is}
 use Rattle.search.proofs.Search.{any-in, any_out, least-none, least-found}
-use Rattle.sets.specs.Set.{Set, has, single, without, lowest}
-use Rattle.sets.proofs.Laws.{single-only, has-lowest, lowest-least}
-use Rattle.sets.proofs.Algebra.{without_is, empty-is}
+use Rattle.sets.specs.Set.{Set, has, without, lowest, Gives}
+use Rattle.sets.proofs.Laws.{has-lowest, lowest-least}
+use Rattle.sets.proofs.Algebra.{without_is, empty-is, gives_is}
 use Rattle.ordering.specs.Links.{is_commit, Between}
 use Rattle.ordering.specs.Shape.{commit_set}
 use Rattle.ordering.specs.Placing.{unplaced, awaited, ready, lowest_ready}
@@ -77,29 +77,26 @@ module _ (rows : List Set) (n : ℕ) (placed : Set) (between : Between n (links_
   left-none {left} h e = (least-none (suc n) (ready n (links_in rows) placed)).1 (λ j l t. (empty-is left).0 e j (h.has-ready j t))
 
   -- c is the lowest of them, and w is what it awaits
-  module _ {left : Set} (h : Left rows n placed left) (some_left : 0 < left) (word : left < 2 ^ 64) {c w : ℕ} (is-lowest : c ≡ lowest left) (is-awaited : w ≡ waits c) where
-    c-left : T (has left c)
-    c-left = subst (λ (x : ℕ). T (has left x)) (sym is-lowest) (has-lowest left some_left word)
-
+  module _ {left : Set} (h : Left rows n placed left) {c others w : ℕ} (given : Gives left c others) (is-awaited : w ≡ waits c) where
     low : c ≤ n
-    low = ((is_commit-is n c).0 ((and_is (is_commit n c) (not (has placed c)) same same).0 (h.not-placed c c-left)).0).1
+    low = ((is_commit-is n c).0 ((and_is (is_commit n c) (not (has placed c)) same same).0 (h.not-placed c given.held)).0).1
 
     -- nothing: it is ready
     pub left-found : w ≡ 0 → (lowest_ready n (links_in rows) placed ≡ some c) × (c ≤ n)
     unfolding lowest_ready
     left-found e = (
-      least-found (suc n) (ready n (links_in rows) placed) c (omega (arith, low)) (none-ready c (h.not-placed c c-left) (sym is-awaited ∙ e))
-          (λ j l t. let m = lowest-least left some_left word j (h.has-ready j t) in omega (arith, m)),
+      least-found (suc n) (ready n (links_in rows) placed) c (omega (arith, low)) (none-ready c (h.not-placed c given.held) (sym is-awaited ∙ e))
+          (λ j l t. let m = given.least j (h.has-ready j t) in omega (arith, m)),
       low,
     )
 
     -- something: it is not
-    pub left-next : w ≢ 0 → {others : Set} → others ≡ without left (single (lowest left)) → Left rows n placed others
-    left-next other {others} e = subst (Left rows n placed) (sym (e ∙ ap (λ (x : ℕ). without left (single x)) (sym is-lowest))) (record {
-      not-placed = λ a t. h.not-placed a ((without_is left (single c) a).0 t).0;
-      has-ready = λ a t. (without_is left (single c) a).1
-          (h.has-ready a t, λ x. other (is-awaited ∙ ready-none c (subst (λ (y : ℕ). T (ready n (links_in rows) placed y)) (single-only c a x) t)));
-    })
+    pub left-next : w ≢ 0 → Left rows n placed others
+    left-next other = record {
+      not-placed = λ a t. h.not-placed a ((gives_is given a).1 (inr t));
+      has-ready = λ a t. ⊎_elim (λ e. absurd (other (is-awaited ∙ ready-none c (subst (λ (y : ℕ). T (ready n (links_in rows) placed y)) e t)))) (λ x. x)
+          ((gives_is given a).0 (h.has-ready a t));
+    }
 
   -- ---- one step back
 

@@ -44,13 +44,10 @@ fn lowest_ready(rows: &[u64], n: usize, placed: u64) -> Option<usize>
     requires { (length rows.now ≡ numbers) × (n ≤ max_commits) × Between n (links_in rows.now) }
     ensures { MatchOption result (lowest_ready n (links_in rows.now) placed ≡ none) (λ c. (lowest_ready n (links_in rows.now) placed ≡ some c) × (c ≤ n)) }
 {
-    let mut left = unplaced(n, placed);
-    while left != 0 {
-        let c = sets::lowest(left);
+    for c in sets::Members(unplaced(n, placed)) {
         if sets::without(rows[c], placed) == 0 {
             return Some(c);
         }
-        left = sets::rest(left);
     }
     None
 }

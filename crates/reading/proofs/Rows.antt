@@ -1,7 +1,7 @@
 -- Rows of links that gain links, one row at a time and one part of an image after the other. Assumes nothing.
-use Prim.Native.Nat.{ℕ, ◌^◌, ◌<◌}
+use Prim.Native.Nat.{ℕ, ◌+◌, ◌^◌, ◌<◌}
 use mathlib.Core.Path.{◌≡◌, refl, sym, ap, ◌∙◌, subst}
-use mathlib.Core.Logic.{◌⊎◌, inl, inr, ◌↔◌, ◌≢◌}
+use mathlib.Core.Logic.{◌⊎◌, inl, inr, ⊎_elim, ◌↔◌}
 use mathlib.Core.List.{List}
 use native.Mathlib.Omega.{arith}
 use native.Mathlib.Decide.{ℕ_discrete, dec_lt}
@@ -9,9 +9,9 @@ use lib.Dec.{T}
 use lib.ListN.{length, get_or, set, length-set, get_or-eq_default}
 use lib.Seq.{get_or-set_same, get_or-set_other}
 use Rattle.search.proofs.Tests.{same, or_is}
-use Rattle.sets.specs.Set.{Set, has, single, union, without, lowest}
-use Rattle.sets.proofs.Laws.{has-none, has-lowest, single-has, single-only}
-use Rattle.sets.proofs.Algebra.{has-union, without_is, without-word}
+use Rattle.sets.specs.Set.{Set, has, single, union, Gives}
+use Rattle.sets.proofs.Laws.{has-none, single-has, single-only}
+use Rattle.sets.proofs.Algebra.{has-union, gives_is, gives-left}
 use Rattle.store.specs.Limits.{numbers}
 use Rattle.store.specs.Store.{CommitNumber}
 use Rattle.ordering.specs.Rows.{links_in}
@@ -114,36 +114,28 @@ module _ {rows more : List Set} {P : CommitNumber → CommitNumber → Type 0} (
 
 -- the readers that are no longer in `left` have their link from the writer
 pub record Shared (rows more : List Set) (writer readers left : ℕ) : Type 0 where
-  pub word : left < 2 ^ 64
   pub within : (i : ℕ) → T (has left i) → T (has readers i)
   pub so_far : Gains rows more (λ (a b : CommitNumber). (a ≡ writer) × (T (has readers b) × (¬ T (has left b))))
 
-pub shared-none : (rows : List Set) (writer readers : ℕ) → length rows ≡ numbers → readers < 2 ^ 64 → Shared rows rows writer readers readers
-shared-none rows writer readers room l = record { word = l; within = λ i t. t; so_far = gains-none rows room (λ a b (e, (t, n)). n t) }
+pub shared-none : (rows : List Set) (writer readers : ℕ) → length rows ≡ numbers → Shared rows rows writer readers readers
+shared-none rows writer readers room = record { within = λ i t. t; so_far = gains-none rows room (λ a b (e, (t, n)). n t) }
 
 module _ {rows more : List Set} {writer readers left : ℕ} (h : Shared rows more writer readers left) where
   pub shared-done : left ≡ 0 → Gains rows more (λ (a b : CommitNumber). (a ≡ writer) × T (has readers b))
   shared-done e = gains-as h.so_far (λ a b. (λ (q, (t, n)). (q, t), λ (q, t). (q, (t, λ x. has-none b (subst (λ (m : ℕ). T (has m b)) e x)))))
 
-  pub shared-more : {last : List Set} {r from rest : ℕ} → left ≢ 0 → r ≡ lowest left → from ≡ single writer → rest ≡ without left (single (lowest left))
-      → Gains more last (λ (a b : CommitNumber). (b ≡ r) × T (has from a)) → Shared rows last writer readers rest
-  shared-more {last} {r} {from} {rest} p low own e g = record {
-    word = rw e (without-word left (single (lowest left)) h.word);
+  pub shared-more : {last : List Set} {r from rest : ℕ} → Gives left r rest → from ≡ single writer → Gains more last (λ (a b : CommitNumber). (b ≡ r) × T (has from a))
+      → Shared rows last writer readers rest
+  shared-more {last} {r} {from} {rest} given own g = record {
     within = λ i x. h.within i (still i x);
     so_far = gains-as (gains-then h.so_far g) (λ a b. (out a b, λ x. into a b x (ℕ_discrete b r)));
   }
     where
-      in_left : T (has left r)
-      in_left = rw low (has-lowest left (omega arith) h.word)
-
-      rest-is : (i : ℕ) → T (has rest i) ↔ (T (has left i) × (¬ T (has (single (lowest left)) i)))
-      rest-is i = rw e (without_is left (single (lowest left)) i)
-
       still : (i : ℕ) → T (has rest i) → T (has left i)
-      still i x = ((rest-is i).0 x).0
+      still i x = (gives_is given i).1 (inr x)
 
       gone : ¬ T (has rest r)
-      gone x = ((rest-is r).0 x).1 (rw low (single-has (lowest left)))
+      gone x = omega (arith, gives-left given r x)
 
       Before : ℕ → ℕ → Type 0
       Before a b = (a ≡ writer) × (T (has readers b) × (¬ T (has left b)))
@@ -151,8 +143,8 @@ module _ {rows more : List Set} {writer readers left : ℕ} (h : Shared rows mor
       out : (a b : ℕ) → Before a b ⊎ ((b ≡ r) × T (has from a)) → (a ≡ writer) × (T (has readers b) × (¬ T (has rest b)))
       out a b (inl (q, (t, n))) = (q, (t, λ x. n (still b x)))
       out a b (inr (q, t)) =
-          (single-only writer a (subst (λ (m : ℕ). T (has m a)) own t), subst (λ (x : ℕ). T (has readers x) × (¬ T (has rest x))) (sym q) (h.within r in_left, gone))
+          (single-only writer a (subst (λ (m : ℕ). T (has m a)) own t), subst (λ (x : ℕ). T (has readers x) × (¬ T (has rest x))) (sym q) (h.within r given.held, gone))
 
       into : (a b : ℕ) → (a ≡ writer) × (T (has readers b) × (¬ T (has rest b))) → Dec (b ≡ r) → Before a b ⊎ ((b ≡ r) × T (has from a))
       into a b (q, (t, n)) (yes x) = inr (x, subst (λ (m : ℕ). T (has m a)) (sym own) (subst (λ (y : ℕ). T (has (single writer) y)) (sym q) (single-has writer)))
-      into a b (q, (t, n)) (no x) = inl (q, (t, λ y. n ((rest-is b).1 (y, λ z. x (single-only (lowest left) b z ∙ sym low)))))
+      into a b (q, (t, n)) (no x) = inl (q, (t, λ y. ⊎_elim x n ((gives_is given b).0 y)))

@@ -73,10 +73,8 @@ fn reader_links(rows: &mut [u64], writer: usize, readers: u64)
     ensures { Gains rows.old rows.new (λ (a b : ℕ). (a ≡ writer) × T (has readers b)) }
 {
     let from = sets::single(writer);
-    let mut left = readers;
-    while left != 0 {
-        add(rows, sets::lowest(left), from);
-        left = sets::rest(left);
+    for reader in sets::Members(readers) {
+        add(rows, reader, from);
     }
 }
 

@@ -1,10 +1,9 @@
 -- A set of even numbers, each twice a number that passes a test: what is said of the set by the test. Assumes nothing.
-use Prim.Native.Nat.{ℕ, zero, suc, ◌+◌, ◌*◌, ◌/◌, ◌%◌, ◌^◌, ◌<◌}
+use Prim.Native.Nat.{ℕ, zero, suc, ◌+◌, ◌*◌, ◌/◌, ◌%◌, ◌^◌, ◌≤◌, ◌<◌}
 use mathlib.Core.Path.{◌≡◌, refl, sym, ap, ◌∙◌, subst}
 use mathlib.Core.Bool.{Bool, false, ◌&&◌, ◌||◌, not}
-use mathlib.Core.Logic.{inl, inr, ◌⊎◌}
+use mathlib.Core.Logic.{inl, inr, ◌⊎◌, ⊎_elim}
 use native.Mathlib.Omega.{arith}
-use native.Mathlib.Decide.{dec_lt}
 use lib.Bits.{bit_and, bit_or}
 use lib.Dec.{T, eqb, eqb→eq, lit<}
 use lib.Pow.{shr-shr}
@@ -13,9 +12,9 @@ use Rattle.search.specs.Choose.{choose}
 use Rattle.search.specs.Search.{any, how_many}
 use Rattle.search.proofs.Search.{any-in}
 use Rattle.search.proofs.Tests.{T_false, and_left, and_right, and_both, or_cases, same_test, eq_test, stable}
-use Rattle.sets.specs.Set.{Set, has, single, union, without, lowest, size, set_of}
-use Rattle.sets.proofs.Laws.{has-none, has-lt, single-has, single-only, has-lowest, lowest-least}
-use Rattle.sets.proofs.Algebra.{has-union, both_is, without_is, empty-is}
+use Rattle.sets.specs.Set.{Set, has, single, union, without, size, set_of, Gives}
+use Rattle.sets.proofs.Laws.{has-none, has-lt, single-has, single-only}
+use Rattle.sets.proofs.Algebra.{has-union, both_is, without_is, gives_is, gives-left, empty-is}
 use Rattle.sets.proofs.Counting.{has-set_of, set_of-has, size-how_many}
 use Rattle.store.specs.Limits.{max_keys}
 use Rattle.trace.specs.Sorted.{touched_by}
@@ -56,43 +55,35 @@ module _ (w m : Set) (d : Doubled w (has m)) where
   pub doubled-none : w ≡ 0 → m ≡ 0
   doubled-none none = (empty-is m).1 (λ k t. has-none (2 * k) (subst (λ (x : Set). T (has x (2 * k))) none (subst T (sym (has-double k)) t)))
 
-  module _ (some : 0 < w) (word : w < 2 ^ 64) (word' : m < 2 ^ 64) where
-    pub doubled-some : 0 < m
-    doubled-some = go (dec_lt 0 m)
-      where
-        go : Dec (0 < m) → 0 < m
-        go (yes l) = l
-        go (no g) =
-            let none : m ≡ 0 = omega arith in
-            absurd (has-none (lowest w / 2) (subst (λ (x : Set). T (has x (lowest w / 2))) none (double-has (lowest w) (has-lowest w some word)).1))
+  module _ {i : ℕ} {rest : Set} (given : Gives w i rest) where
+    abbrev half : ℕ
+    half = i / 2
 
-    pub doubled-lowest : lowest w ≡ 2 * lowest m
-    doubled-lowest =
-        let (even, there) = double-has (lowest w) (has-lowest w some word) in
-        let low = lowest-least m doubled-some word' (lowest w / 2) there in
-        let high = lowest-least w some word (2 * lowest m) (subst T (sym (has-double (lowest m))) (has-lowest m doubled-some word')) in
-        omega arith
+    even : i % 2 ≡ 0
+    even = (double-has i given.held).0
 
-    pub doubled-rest : {rest : Set} → rest ≡ without w (single (lowest w)) → Doubled rest (has (without m (single (lowest m))))
-    doubled-rest is i = rw is (same_test _ _ to from)
+    pub doubled-gives : Gives m half (without m (single half))
+    doubled-gives = record {
+      held = (double-has i given.held).1;
+      least = λ k t. let e : i ≤ 2 * k = given.least (2 * k) (subst T (sym (has-double k)) t) in omega arith;
+      bound = omega (arith, given.bound);
+      others = refl;
+    }
+
+    pub doubled-rest : Doubled rest (has (without m (single half)))
+    doubled-rest j = same_test _ _ to from
       where
-        to : T (has (without w (single (lowest w))) i) → T (eqb (i % 2) 0 && has (without m (single (lowest m))) (i / 2))
+        to : T (has rest j) → T (eqb (j % 2) 0 && has (without m (single half)) (j / 2))
         to t =
-            let (old, other) = (without_is w (single (lowest w)) i).0 t in
-            let (even, there) = double-has i old in
-            let twice = doubled-lowest in
-            and_both (eqb (i % 2) 0) _ (eq_test (i % 2) 0 even)
-            ((without_is m (single (lowest m)) (i / 2)).1 (there, λ x. let half = single-only (lowest m) (i / 2) x in let same : i ≡ lowest w = omega arith in other (rw same (single-has (lowest w)))))
+            let (old, there) = double-has j ((gives_is given j).1 (inr t)) in
+            let above = gives-left given j t in
+            and_both (eqb (j % 2) 0) _ (eq_test (j % 2) 0 old) ((without_is m (single half) (j / 2)).1 (there, λ x. let same = single-only half (j / 2) x in omega (arith, same, even, old, above)))
 
-        from : T (eqb (i % 2) 0 && has (without m (single (lowest m))) (i / 2)) → T (has (without w (single (lowest w))) i)
+        from : T (eqb (j % 2) 0 && has (without m (single half)) (j / 2)) → T (has rest j)
         from t =
-            let even = eqb→eq (i % 2) 0 (and_left (eqb (i % 2) 0) (has (without m (single (lowest m))) (i / 2)) t) in
-            let (old, other) = (without_is m (single (lowest m)) (i / 2)).0 (and_right (eqb (i % 2) 0) (has (without m (single (lowest m))) (i / 2)) t) in
-            let twice = doubled-lowest in
-            (without_is w (single (lowest w)) i).1 (
-              subst T (sym (d i)) (and_both (eqb (i % 2) 0) (has m (i / 2)) (eq_test (i % 2) 0 even) old),
-              λ x. let same = single-only (lowest w) i x in let half : i / 2 ≡ lowest m = omega arith in other (rw half (single-has (lowest m))),
-            )
+            let zero = eqb→eq (j % 2) 0 (and_left (eqb (j % 2) 0) (has (without m (single half)) (j / 2)) t) in
+            let (old, other) = (without_is m (single half) (j / 2)).0 (and_right (eqb (j % 2) 0) (has (without m (single half)) (j / 2)) t) in
+            ⊎_elim (λ e. absurd (other (rw e (single-has half)))) (λ x. x) ((gives_is given j).0 (subst T (sym (d j)) (and_both (eqb (j % 2) 0) (has m (j / 2)) (eq_test (j % 2) 0 zero) old)))
 
 -- ---- the first ranks of the keys with an operation
 

@@ -10,15 +10,14 @@ use lib.ListN.{length, get_or, set}
 use Rattle.search.specs.Choose.{when}
 use Rattle.search.specs.Search.{how_many}
 use Rattle.search.proofs.Tests.{T_true, T_false}
-use Rattle.sets.specs.Set.{Set, has, single, without, lowest, size}
-use Rattle.sets.proofs.Algebra.{without-word}
+use Rattle.sets.specs.Set.{Set, has, single, without, size, Gives}
 use Rattle.sets.proofs.Counting.{set_of-small, size-how_many}
 use Rattle.endian.specs.Endian.{le_at}
 use Rattle.store.specs.Limits.{max_keys}
 use Rattle.trace.specs.Entry.{listed_or}
 use Rattle.trace.specs.Listed.{listed_at}
 use Rattle.trace.specs.Sorted.{touched_by}
-use Rattle.trace.proofs.Doubled.{Doubled, doubled-none, doubled-some, doubled-lowest, doubled-rest, touched_set, touched_set-has, firsts-doubled, firsts-of}
+use Rattle.trace.proofs.Doubled.{Doubled, doubled-none, doubled-gives, doubled-rest, touched_set, touched_set-has, firsts-doubled, firsts-of}
 use Rattle.trace.proofs.Filled.{Filled, filled_none, filled_more}
 use Rattle.trace.proofs.Rising.{Passed, passed_none, passed-all, next-listed, none_between, count-to, count-with, count_room, passed-more}
 
@@ -64,45 +63,41 @@ module _ {s : List ℕ} {start : ℕ} {listed : Set} {before masks : List ℕ} {
           let from : h.low ≤ k = omega arith in
           h.filled.kept k from ∙ over-unlisted s start (has listed) (get_or before k 0) k (passed-all h.passed none k from)
 
-  module _ (some : 0 < left) (word : left < 2 ^ 64) where
-    pub putting-key : T (has listed (lowest left))
-    putting-key = (next-listed h.passed some word).0
+  module _ {k : ℕ} {rest : Set} (given : Gives left k rest) where
+    pub putting-key : T (has listed k)
+    putting-key = (next-listed h.passed given).0
 
     -- its mask stands among those of all that are listed
     pub putting-room : listed < 2 ^ 64 → at + 8 ≤ start + 8 * size listed
-    putting-room all-word = let room = count_room h.passed some word all-word in let place = h.place in omega arith
+    putting-room all-word = let room = count_room h.passed given all-word in let place = h.place in omega arith
 
-    pub putting-more : lowest left < length before → {k mask : ℕ} {after : List ℕ} {rest : Set} → k ≡ lowest left → mask ≡ le_at s at 8 → after ≡ set masks k mask
-        → rest ≡ without left (single (lowest left)) → Putting s start listed before after (at + 8) rest
-    putting-more within is_key is-mask is-after is-rest = record {
-      low = lowest left + 1;
-      filled = filled_more (Put s start listed before) before within (up_to h.filled) (is-after ∙ rw is_key (ap (set masks (lowest left)) (is-mask ∙ there)));
-      place = let place = h.place in let one = count-with h.passed some word in omega arith;
-      passed = passed-more h.passed some word is-rest;
+    pub putting-more : k < length before → {mask : ℕ} {after : List ℕ} → mask ≡ le_at s at 8 → after ≡ set masks k mask → Putting s start listed before after (at + 8) rest
+    putting-more within is-mask is-after = record {
+      low = k + 1;
+      filled = filled_more (Put s start listed before) before within (up_to h.filled) (is-after ∙ ap (set masks k) (is-mask ∙ there));
+      place = let place = h.place in let one = count-with h.passed given in omega arith;
+      passed = passed-more h.passed given;
     }
       where
-        there : le_at s at 8 ≡ Put s start listed before (lowest left)
-        there =
-            ap (λ (n : ℕ). le_at s n 8) (h.place ∙ ap (λ (n : ℕ). start + 8 * n) (sym (count-to h.passed some word)))
-            ∙ over-listed s start (has listed) (get_or before (lowest left) 0) (lowest left) putting-key
+        there : le_at s at 8 ≡ Put s start listed before k
+        there = ap (λ (n : ℕ). le_at s n 8) (h.place ∙ ap (λ (n : ℕ). start + 8 * n) (sym (count-to h.passed given))) ∙ over-listed s start (has listed) (get_or before k 0) k putting-key
 
-        up_to : Filled (Put s start listed before) before h.low masks → Filled (Put s start listed before) before (lowest left) masks
+        up_to : Filled (Put s start listed before) before h.low masks → Filled (Put s start listed before) before k masks
         up_to f = record {
           filled = λ j less. at_key j less (dec_lt j h.low);
-          kept = λ j more. f.kept j (let first = (next-listed h.passed some word).1 in omega arith);
+          kept = λ j more. f.kept j (let first = (next-listed h.passed given).1 in omega arith);
           same_length = f.same_length;
         }
           where
-            at_key : (j : ℕ) → j < lowest left → Dec (j < h.low) → get_or masks j 0 ≡ Put s start listed before j
+            at_key : (j : ℕ) → j < k → Dec (j < h.low) → get_or masks j 0 ≡ Put s start listed before j
             at_key j less (yes l) = f.filled j l
             at_key j less (no g) =
                 let from : h.low ≤ j = omega arith in
-                f.kept j from ∙ over-unlisted s start (has listed) (get_or before j 0) j (none_between h.passed some word j from less)
+                f.kept j from ∙ over-unlisted s start (has listed) (get_or before j 0) j (none_between h.passed given j from less)
 
 -- the same where what is listed is the keys with an operation, and `left` are the first ranks of those that are left
 pub record PuttingBy (s : List ℕ) (start : ℕ) (ranks : Set) (before masks : List ℕ) (at : ℕ) (left : Set) : Type 0 where
   pub keys : Set
-  pub keys-word : keys < 2 ^ 64
   pub firsts : Doubled left (has keys)
   pub putting : Putting s start (touched_set ranks) before masks at keys
 
@@ -110,7 +105,6 @@ module _ (s : List ℕ) (start : ℕ) (ranks : Set) (before : List ℕ) (ranks-w
   pub by-none : {left : Set} → ((i : ℕ) → has left i ≡ (eqb (i % 2) 0 && (has ranks i || has ranks (i + 1)))) → PuttingBy s start ranks before before start left
   by-none {left} is = record {
     keys = touched_set ranks;
-    keys-word = let small = set_of-small max_keys (touched_by ranks) in omega arith;
     firsts = firsts-of ranks left ranks-word (firsts-doubled ranks left is);
     putting = putting-none s start (touched_set ranks) before;
   }
@@ -121,30 +115,23 @@ module _ (s : List ℕ) (start : ℕ) (ranks : Set) (before : List ℕ) (ranks-w
         putting-all h.putting (doubled-none left h.keys h.firsts none) k
         ∙ ap (λ (f : ℕ → Bool). listed_or (listed_at s start f k) (get_or before k 0)) (fun_ext (touched_set-has ranks ranks-word))
 
-    module _ (some : 0 < left) (word : left < 2 ^ 64) where
-      key_left : 0 < h.keys
-      key_left = doubled-some left h.keys h.firsts some word h.keys-word
+    module _ {i : ℕ} {rest : Set} (given : Gives left i rest) where
+      key_given : Gives h.keys (i / 2) (without h.keys (single (i / 2)))
+      key_given = doubled-gives left h.keys h.firsts given
 
-      key-is : {k : ℕ} → k ≡ lowest left / 2 → k ≡ lowest h.keys
-      key-is is = let twice = doubled-lowest left h.keys h.firsts some word h.keys-word in omega arith
-
-      pub by_key : {k : ℕ} → k ≡ lowest left / 2 → T (touched_by ranks k)
-      by_key {k} is =
-          subst T (touched_set-has ranks ranks-word k)
-          (subst (λ (j : ℕ). T (has (touched_set ranks) j)) (sym (key-is is)) (putting-key h.putting key_left h.keys-word))
+      pub by_key : T (touched_by ranks (i / 2))
+      by_key = subst T (touched_set-has ranks ranks-word (i / 2)) (putting-key h.putting key_given)
 
       pub by-room : at + 8 ≤ start + 8 * how_many max_keys (touched_by ranks)
       by-room =
           let small = set_of-small max_keys (touched_by ranks) in
-          let room = putting-room h.putting key_left h.keys-word (omega arith) in
+          let room = putting-room h.putting key_given (omega arith) in
           let many = size-how_many max_keys (touched_set ranks) small ∙ ap (how_many max_keys) (fun_ext (touched_set-has ranks ranks-word)) in
           omega arith
 
-      pub by-more : {k mask : ℕ} {after : List ℕ} {rest : Set} → k ≡ lowest left / 2 → k < length before → mask ≡ le_at s at 8 → after ≡ set masks k mask
-          → rest ≡ without left (single (lowest left)) → PuttingBy s start ranks before after (at + 8) rest
-      by-more {k} is_key within is-mask is-after is-rest = record {
-        keys = without h.keys (single (lowest h.keys));
-        keys-word = without-word h.keys (single (lowest h.keys)) h.keys-word;
-        firsts = doubled-rest left h.keys h.firsts some word h.keys-word is-rest;
-        putting = putting-more h.putting key_left h.keys-word (let is = key-is is_key in omega arith) (key-is is_key) is-mask is-after refl;
+      pub by-more : i / 2 < length before → {mask : ℕ} {after : List ℕ} → mask ≡ le_at s at 8 → after ≡ set masks (i / 2) mask → PuttingBy s start ranks before after (at + 8) rest
+      by-more within is-mask is-after = record {
+        keys = without h.keys (single (i / 2));
+        firsts = doubled-rest left h.keys h.firsts given;
+        putting = putting-more h.putting key_given within is-mask is-after;
       }

@@ -38,12 +38,9 @@ fn listed_into(s: &[u8], start: usize, listed: u64, masks: &mut [u64])
     ensures { (k : ℕ) → get_or masks.new k 0 ≡ listed_or (listed_at s.now start (has listed) k) (get_or masks.old k 0) }
 {
     let mut at = start;
-    let mut left = listed;
-    while 0 < left {
-        let k = sets::lowest(left);
+    for k in sets::Members(listed) {
         masks[k] = endian::u64_at(s, at);
         at = at + 8;
-        left = sets::rest(left);
     }
 }
 
@@ -105,12 +102,9 @@ fn touched_into(s: &[u8], start: usize, ranks: u64, masks: &mut [u64])
     ensures { (k : ℕ) → get_or masks.new k 0 ≡ listed_or (listed_at s.now start (touched_by ranks) k) (get_or masks.old k 0) }
 {
     let mut at = start;
-    let mut left = first_ranks(ranks);
-    while 0 < left {
-        let k = sets::lowest(left) / 2;
-        masks[k] = endian::u64_at(s, at);
+    for twice in sets::Members(first_ranks(ranks)) {
+        masks[twice / 2] = endian::u64_at(s, at);
         at = at + 8;
-        left = sets::rest(left);
     }
 }
 

@@ -6,7 +6,7 @@ use native.Mathlib.Omega.{arith}
 use lib.Dec.{T}
 use lib.ListN.{length, get_or}
 use Rattle.search.specs.Search.{how_many}
-use Rattle.sets.specs.Set.{Set, has, single, without, lowest, size}
+use Rattle.sets.specs.Set.{Set, has, size, Gives}
 use Rattle.endian.specs.Endian.{le_bytes, put_at, pieces}
 use Rattle.endian.proofs.Put.{put-none, put_then}
 use Rattle.store.specs.Store.{View}
@@ -40,32 +40,31 @@ module _ {start : List ℕ} {at : ℕ} {masks : List ℕ} {base : ℕ} {listed :
       h.put n u below row
       ∙ ap (put_at start at) (sym (listed-passed h.low n (has listed) u (h.passed.bound n below) (λ k from to. passed-all h.passed none k from)))
 
-  module _ (some : 0 < left) (word : left < 2 ^ 64) where
+  module _ {k : ℕ} {rest : Set} (given : Gives left k rest) where
     -- the next key has a mask in the row, and there is room for it
-    pub listed-key : (n : ℕ) → ((k : ℕ) → T (has listed k) → k < n) → lowest left < n
-    listed-key n below = below (lowest left) (next-listed h.passed some word).0
+    pub listed-key : (n : ℕ) → ((j : ℕ) → T (has listed j) → j < n) → k < n
+    listed-key n below = below k (next-listed h.passed given).0
 
     pub listed-room : listed < 2 ^ 64 → to + 8 ≤ at + 8 * size listed
-    listed-room all-word = let room = count_room h.passed some word all-word in let place = h.place in omega arith
+    listed-room all-word = let room = count_room h.passed given all-word in let place = h.place in omega arith
 
-    pub listed-one : listed < 2 ^ 64 → at + 8 * size listed ≤ length start → {k mask : ℕ} {after : List ℕ} {rest : Set} → k ≡ lowest left → mask ≡ get_or masks (base + k) 0
-        → after ≡ put_at buffer to (le_bytes 8 mask) → length after ≡ length buffer → rest ≡ without left (single (lowest left))
-        → PutListed start at masks base listed after (to + 8) rest
-    listed-one all-word long {after = after} is_key is-mask is-after same is-rest = record {
-      low = lowest left + 1;
-      passed = passed-more h.passed some word is-rest;
-      place = let place = h.place in let one = count-with h.passed some word in omega arith;
+    pub listed-one : listed < 2 ^ 64 → at + 8 * size listed ≤ length start → {mask : ℕ} {after : List ℕ} → mask ≡ get_or masks (base + k) 0
+        → after ≡ put_at buffer to (le_bytes 8 mask) → length after ≡ length buffer → PutListed start at masks base listed after (to + 8) rest
+    listed-one all-word long {after = after} is-mask is-after same = record {
+      low = k + 1;
+      passed = passed-more h.passed given;
+      place = let place = h.place in let one = count-with h.passed given in omega arith;
       same_length = same ∙ h.same_length;
       put = λ n u below row.
-          let own = le_bytes 8 (u (lowest left)) in
+          let own = le_bytes 8 (u k) in
           let before = listed_bytes h.low (has listed) u in
-          let room = count_room h.passed some word all-word in
-          let listed-there = next-listed h.passed some word in
+          let room = count_room h.passed given all-word in
+          let listed-there = next-listed h.passed given in
           is-after
-          ∙ ap (λ (m : ℕ). put_at buffer to (le_bytes 8 m)) (is-mask ∙ ap (λ (j : ℕ). get_or masks (base + j) 0) is_key ∙ row (lowest left) (listed-key n below))
+          ∙ ap (λ (m : ℕ). put_at buffer to (le_bytes 8 m)) (is-mask ∙ row k (listed-key n below))
           ∙ ap (λ (d : List ℕ). put_at d to own) (h.put n u below row)
           ∙ ap (λ (p : ℕ). put_at (put_at start at before) p own) h.place
           ∙ put_then start at before own (8 * how_many h.low (has listed)) (length-listed_bytes h.low (has listed) u) (omega arith)
-          ∙ ap (λ (x : List ℕ). put_at start at (x ++ own)) (sym (listed-passed h.low (lowest left) (has listed) u listed-there.1 (none_between h.passed some word)))
-          ∙ ap (put_at start at) (sym (listed_more (lowest left) (has listed) u listed-there.0));
+          ∙ ap (λ (x : List ℕ). put_at start at (x ++ own)) (sym (listed-passed h.low k (has listed) u listed-there.1 (none_between h.passed given)))
+          ∙ ap (put_at start at) (sym (listed_more k (has listed) u listed-there.0));
     }

@@ -42,11 +42,9 @@ fn put_listed(buffer: &mut [u8], at: usize, masks: &[u64], base: usize, listed: 
         → buffer.new ≡ put_at buffer.old at (listed_bytes n (has listed) u) }
 {
     let mut to = at;
-    let mut left = listed;
-    while 0 < left {
-        endian::put_u64(buffer, to, masks[base + sets::lowest(left)]);
+    for k in sets::Members(listed) {
+        endian::put_u64(buffer, to, masks[base + k]);
         to = to + 8;
-        left = sets::rest(left);
     }
 }
 

@@ -2,11 +2,11 @@
 use Rattle.reading.proofs.Rows.{shared-none, shared-more, shared-done}
 use Rattle.reading.proofs.linking.reader_links.Goals as goal
 
-pub loop-left-init : goal.loop-left-init
-loop-left-init c = shared-none _ _ _ c.requires.0 c.ranges.readers.fits
+pub loop-reader-init : goal.loop-reader-init
+loop-reader-init c = rw c.into_iter-reader-iterator.ensures.into_iter_gives (shared-none _ _ _ c.requires.0)
 
-pub loop-left-preserved : goal.loop-left-preserved
-loop-left-preserved c = shared-more c.loop-left.invariant c.loop-left-test.true c.lowest.ensures.0 c.single-from.ensures c.rest-left.ensures.0 c.add.ensures
+pub loop-reader-preserved : goal.loop-reader-preserved
+loop-reader-preserved c = shared-more c.loop-reader.invariant c.in-Some.ensures.steps c.single-from.ensures c.add.ensures
 
 pub returns : goal.returns
-returns c = shared-done c.loop-left.invariant c.loop-left-test.false
+returns c = shared-done c.loop-reader.invariant c.in-None.ensures.steps.0

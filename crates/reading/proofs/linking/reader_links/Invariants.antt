@@ -2,9 +2,5 @@
 use Rattle.reading.proofs.Rows.{Shared}
 use Rattle.reading.proofs.linking.reader_links.Given as goal
 
-abbrev pub invariant-loop-left : goal.invariant-loop-left
-invariant-loop-left l =
-    Shared l.initial.rows l.rows l.writer l.readers l.left
-
-abbrev pub decreases-loop-left : goal.decreases-loop-left
-decreases-loop-left l = l.left
+abbrev pub invariant-loop-reader : goal.invariant-loop-reader
+invariant-loop-reader l = Shared l.initial.rows l.rows l.writer l.readers l.reader-iterator.0

@@ -4,26 +4,23 @@ use native.Mathlib.Omega.{arith}
 use Rattle.trace.proofs.Masks.{putting-none, putting-room, putting-key, putting-more, putting-all}
 use Rattle.trace.proofs.contents.listed_into.Goals as goal
 
-pub loop-left-init : goal.loop-left-init
-loop-left-init c = (c.ranges.listed.fits, putting-none _ _ _ _)
+pub loop-k-init : goal.loop-k-init
+loop-k-init c = rw c.into_iter-k-iterator.ensures.into_iter_gives (putting-none _ _ _ _)
 
 pub u64_at-requires : goal.u64_at-requires
-u64_at-requires c = let l = c.loop-left in omega (arith, putting-room l.invariant.1 (omega arith) l.invariant.0 c.ranges.listed.fits)
+u64_at-requires c = omega (arith, putting-room c.loop-k.invariant c.in-Some.ensures.steps c.ranges.listed.fits)
 
 pub bounds-masks-k : goal.bounds-masks-k
-bounds-masks-k c =
-    let l = c.loop-left in
-    let key = putting-key l.invariant.1 (omega arith) l.invariant.0 in
-    omega (arith, l.invariant.1.filled.same_length, c.lowest-k.ensures.0, c.requires.1 _ key)
+bounds-masks-k c = let l = c.loop-k.invariant in omega (arith, l.filled.same_length, c.requires.1 _ (putting-key l c.in-Some.ensures.steps))
 
 pub overflow_add-at : goal.overflow_add-at
-overflow_add-at c = let l = c.loop-left in omega (arith, putting-room l.invariant.1 (omega arith) l.invariant.0 c.ranges.listed.fits)
+overflow_add-at c = omega (arith, putting-room c.loop-k.invariant c.in-Some.ensures.steps c.ranges.listed.fits)
 
-pub loop-left-preserved : goal.loop-left-preserved
-loop-left-preserved c =
-    let l = c.loop-left in
-    let key = putting-key l.invariant.1 (omega arith) l.invariant.0 in
-    (omega arith, putting-more l.invariant.1 (omega arith) l.invariant.0 (c.requires.1 _ key) c.lowest-k.ensures.0 c.u64_at.ensures refl c.rest-left.ensures.0)
+pub loop-k-preserved : goal.loop-k-preserved
+loop-k-preserved c =
+    let l = c.loop-k.invariant in
+    let given = c.in-Some.ensures.steps in
+    putting-more l given (c.requires.1 _ (putting-key l given)) c.u64_at.ensures refl
 
 pub returns : goal.returns
-returns c = putting-all c.loop-left.invariant.1 (omega arith)
+returns c = putting-all c.loop-k.invariant c.in-None.ensures.steps.0
