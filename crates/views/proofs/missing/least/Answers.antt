@@ -6,26 +6,20 @@ use Rattle.views.proofs.Tests.{taken, left as not_so}
 use Rattle.views.proofs.missing.least.Goals as goal
 
 pub loop-left-init : goal.loop-left-init
-loop-left-init g c = (
-  omega arith,
-  λ s u want e kk ro rule.
-      looking-all s want u _ (c.type_inv.keys _).fits (kk.full _ (omega arith)) (ro _ (omega arith)) c.without-left.ensures,
-)
+loop-left-init g c = λ s u want e kk ro rule.
+    looking-all s want u _ (c.type_inv.keys _).fits (kk.full _ (omega arith)) (ro _ (omega arith)) c.without-left.ensures
 
 pub loop-left-preserved : goal.loop-left-preserved
-loop-left-preserved g c = (
-  c.loop-left.invariant.0,
-  λ s u want e kk ro rule.
-      looking-on s want u _ (c.loop-left.invariant.1 s u want e kk ro rule) c.loop-left-test.true c.lowest-v.ensures.0 (λ b. not_so c.if-wants.false (rule _ _ _ b c.wants.ensures)) c.rest-left.ensures.0,
-)
+loop-left-preserved g c = λ s u want e kk ro rule.
+    looking-on s want u _ (c.loop-left.invariant s u want e kk ro rule) c.loop-left-test.true c.lowest-v.ensures.0 (λ b. not_so c.if-wants.false (rule _ _ _ b c.wants.ensures)) c.rest-left.ensures.0
 
 pub loop-k-preserved : goal.loop-k-preserved
 loop-k-preserved g c = λ s u want e kk ro rule.
-    below_more _ _ (c.loop-k.invariant s u want e kk ro rule) (looking-done s want u _ (c.loop-left.invariant.1 s u want e kk ro rule) c.loop-left-test.false)
+    below_more _ _ (c.loop-k.invariant s u want e kk ro rule) (looking-done s want u _ (c.loop-left.invariant s u want e kk ro rule) c.loop-left-test.false)
 
 pub returns-then-wants : goal.returns-then-wants
 returns-then-wants g c = λ s u want e kk ro rule.
-    looking-found s want u _ (c.loop-left.invariant.1 s u want e kk ro rule) c.loop-left-test.true c.lowest-v.ensures.0 (λ b. taken c.if-wants.true (rule _ _ _ b c.wants.ensures)) (omega arith)
+    looking-found s want u _ (c.loop-left.invariant s u want e kk ro rule) c.loop-left-test.true c.lowest-v.ensures.0 (λ b. taken c.if-wants.true (rule _ _ _ b c.wants.ensures)) (omega arith)
     (c.loop-k.invariant s u want e kk ro rule)
 
 pub returns : goal.returns

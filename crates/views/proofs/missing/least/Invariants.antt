@@ -13,9 +13,8 @@ use Rattle.views.proofs.missing.least.Given as goal
 
 abbrev pub invariant-loop-left : goal.invariant-loop-left
 invariant-loop-left g l =
-    (l.k < l.n)
-    × ((s : Store) (u : View) (want : Rule) → s.keys ≡ l.n → KeepsKeys s l.keys → RowAt l.n l.masks l.base u
-    → ((k : Key) (v : VersionNumber) (b : Bool) → v.0 < count s k.0 → goal.F-post g l.wants k v b → b ≡ want k.0 v.0) → Looking s want u l.k l.left)
+    (s : Store) (u : View) (want : Rule) → s.keys ≡ l.n → KeepsKeys s l.keys → RowAt l.n l.masks l.base u
+    → ((k : Key) (v : VersionNumber) (b : Bool) → v.0 < count s k.0 → goal.F-post g l.wants k v b → b ≡ want k.0 v.0) → Looking s want u l.k l.left
 
 abbrev pub decreases-loop-left : goal.decreases-loop-left
 decreases-loop-left g l = l.left
