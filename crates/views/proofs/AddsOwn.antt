@@ -1,7 +1,6 @@
 -- Masks that are those of the view before a commit and the versions that the commit wrote. Assumes nothing.
-use Rattle.std.proofs.Common.{◌≡◌, ℕ, ◌+◌, ◌<◌, ◌≤◌, T, eqb, ◌⊎◌, ◌↔◌, List, get_or, sym, refl, ◌∙◌, subst, subst₂, inl, inr, ⊎_elim, arith, below_more}
+use Rattle.std.proofs.Common.{◌≡◌, ℕ, ◌+◌, ◌<◌, ◌≤◌, T, eqb, ◌⊎◌, ◌↔◌, List, get_or, sym, refl, ◌∙◌, subst, inl, inr, ⊎_elim, arith}
 use native.Mathlib.Decide.{dec_lt}
-use lib.Bits.{bit_xor}
 use Rattle.search.proofs.Tests.{both, eq_is, T?, T_true, T_false}
 use Rattle.sets.specs.Set.{Set, has, union}
 use Rattle.sets.proofs.Laws.{has-none}
@@ -17,28 +16,13 @@ use Rattle.state.specs.Keeps.{IsSet, KeepsVersions, KeepsMasks}
 use Rattle.state.specs.Rows.{RowAt}
 use Rattle.state.proofs.Sets.{is_set-as, is_set-union}
 use Rattle.views.specs.Own.{AddsOwn}
-use Rattle.views.proofs.Tests.{has-as, xor-zero, union-zero}
+use Rattle.views.proofs.Tests.{has-as}
 
 -- ---- the test in words
 
 -- for proofs alone: at each key below n the mask is the one at `base` with what the row has
 pub record OwnBelow (fresh views : List ℕ) (base : ℕ) (versions : List ℕ) (row n : ℕ) : Type 0 where
   pub each : (k : Key) → k < n → get_or fresh k 0 ≡ union (get_or views (base + k) 0) (get_or versions (row + k) 0)
-
--- and at the keys passed
-module _ (fresh views : List ℕ) (base : ℕ) (versions : List ℕ) (row : ℕ) where
-  pub own-none : (◌≡◌ {A = ℕ} 0 0) ↔ OwnBelow fresh views base versions row 0
-  own-none = (λ e. record { each = λ k l. absurd (omega arith) }, λ h. refl)
-
-  pub own-more : {k : ℕ} {all next : Set} → (all ≡ 0) ↔ OwnBelow fresh views base versions row k → (own : Set) → own ≡ union (get_or views (base + k) 0) (get_or versions (row + k) 0)
-      → next ≡ union all (bit_xor (get_or fresh k 0) own) → (next ≡ 0) ↔ OwnBelow fresh views base versions row (k + 1)
-  own-more {k} {all} h own q e = rw e (
-    λ z. let p = (union-zero all word).0 z in record { each = below_more _ _ (h.0 p.0).each ((xor-zero (get_or fresh k 0) own).0 p.1 ∙ q) },
-    λ f. (union-zero all word).1 (h.1 (record { each = λ l b. f.each l (omega arith) }), (xor-zero (get_or fresh k 0) own).1 (f.each k (omega arith) ∙ sym q)),
-  )
-    where
-      word : Set
-      word = bit_xor (get_or fresh k 0) own
 
 -- ---- what it says of the store
 
@@ -97,5 +81,5 @@ module _ (s : Store) (u : View) (c : Commit) (made : Made s u c) (n : ℕ) (numb
       go h k (no x) = own-beyond k (omega arith)
 
   -- the test, made at all keys, answers whether the view after is the view before and the commit's own versions
-  pub adds-own-answer : {all place k : ℕ} → (all ≡ 0) ↔ OwnBelow fresh views base versions place k → place ≡ row → k ≡ n → T (eqb all 0) ↔ AddsOwn s u c
-  adds-own-answer {all} h p e = both (eq_is all 0) (both (subst₂ (λ (q x : ℕ). (all ≡ 0) ↔ OwnBelow fresh views base versions q x) p e h) adds-own-is)
+  pub adds-own-answer : {all place : ℕ} → (all ≡ 0) ↔ OwnBelow fresh views base versions place n → place ≡ row → T (eqb all 0) ↔ AddsOwn s u c
+  adds-own-answer {all} h e = both (eq_is all 0) (both (subst (λ (q : ℕ). (all ≡ 0) ↔ OwnBelow fresh views base versions q n) e h) adds-own-is)

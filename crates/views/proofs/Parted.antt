@@ -1,5 +1,5 @@
 -- The commits that wrote some versions, taken one by one, with all that each of them wrote. Assumes nothing.
-use Rattle.std.proofs.Common.{◌≡◌, ℕ, ◌+◌, ◌^◌, ◌<◌, ◌≤◌, T, ◌≢◌, ◌↔◌, List, length, get_or, set, sym, refl, ap, ◌∙◌, subst, ap₂, subst₂, ⊎_elim, arith, length-set, get_or-set_other, get_or-set_same}
+use Rattle.std.proofs.Common.{◌≡◌, ℕ, ◌+◌, ◌^◌, ◌<◌, ◌≤◌, T, ◌≢◌, ◌↔◌, List, length, get_or, set, sym, ap, ◌∙◌, subst, ap₂, ⊎_elim, arith, length-set, get_or-set_other, get_or-set_same}
 use native.Mathlib.Decide.{ℕ_discrete}
 use lib.Bits.{bit_and}
 use Rattle.search.proofs.Tests.{stable}
@@ -15,16 +15,13 @@ use Rattle.state.specs.Keeps.{IsSet}
 use Rattle.state.specs.Rows.{RowAt}
 use Rattle.state.proofs.Lookup.{writer-in-head}
 use Rattle.state.proofs.Sets.{is_set-none}
-use Rattle.state.proofs.Below.{from-none, key_more}
+use Rattle.state.proofs.Below.{key_more}
 use Rattle.views.specs.Parted.{minus, Versions, HoldsOther, Parted, Parting, PartedAt, Subtracted, RowTaken, LackedAt, LackedBelow}
 use Rattle.views.proofs.Tests.{has-as, none_more}
 
 -- ---- the loops over the keys
 
 module _ (masks : List ℕ) (base : ℕ) (others : List ℕ) (other : ℕ) where
-  pub subtracted-none : {left : List ℕ} → length left ≡ max_keys → Subtracted masks base others other 0 left 0
-  subtracted-none long = record { long = long; each = λ q b. absurd (omega arith); empty = λ e q b. absurd (omega arith) }
-
   -- a word more is the difference
   pub subtracted-more : {k : ℕ} {left : List ℕ} {any : Set} → Subtracted masks base others other k left any → k < max_keys
       → (word : Set) {next : Set} → word ≡ without (get_or masks (base + k) 0) (get_or others (other + k) 0) → next ≡ union any word → Subtracted masks base others other (k + 1) (set left k word) next
@@ -52,9 +49,6 @@ pub record RowPassed (versions : List ℕ) (row k : ℕ) (before after : List �
   pub lacked : IsSet lacks (LackedBelow versions row before k)
 
 module _ (versions : List ℕ) (row : ℕ) (before : List ℕ) where
-  pub row-none : RowPassed versions row 0 before before 0
-  row-none = record { taken = record { long = refl; each = λ q l. absurd (omega arith) }; others = λ q l. refl; lacked = from-none (LackedAt versions row before) }
-
   pub row_more : {k : ℕ} {after : List ℕ} {lacks : Set} → RowPassed versions row k before after lacks → k < length before
       → {word : Set} (lack : Set) {next : Set} → lack ≡ without (get_or versions (row + k) 0) (get_or after k 0) → next ≡ union lacks lack → word ≡ without (get_or after k 0) (get_or versions (row + k) 0)
       → RowPassed versions row (k + 1) before (set after k word) next
@@ -67,11 +61,6 @@ module _ (versions : List ℕ) (row : ℕ) (before : List ℕ) where
       each : (q : ℕ) → q < k + 1 → Dec (q ≡ k) → get_or (set after k word) q 0 ≡ without (get_or before q 0) (get_or versions (row + q) 0)
       each q b (yes z) = rw (z, get_or-set_same after k word 0 (omega (arith, h.taken.long)), ← h.others k (omega arith)) e
       each q b (no n) = get_or-set_other after k q word 0 n ∙ h.taken.each q (omega arith)
-
-  -- the same row and number of keys in other words
-  pub row-whole : {k : ℕ} {after : List ℕ} {lacks : Set} → RowPassed versions row k before after lacks → {place n : ℕ} → row ≡ place → k ≡ n
-      → RowTaken versions place n before after × IsSet lacks (LackedBelow versions place before n)
-  row-whole {after = after} {lacks = lacks} h e f = subst₂ (λ (p m : ℕ). RowTaken versions p m before after × IsSet lacks (LackedBelow versions p before m)) e f (h.taken, h.lacked)
 
 -- ---- the commits found so far
 

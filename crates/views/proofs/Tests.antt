@@ -36,6 +36,3 @@ union-zero a b = (
 pub none_more : (P : ℕ → Type 0) (k : ℕ) {all word next : Set} → (all ≡ 0 → (l : ℕ) → l < k → P l) → (word ≡ 0 → P k) → next ≡ union all word
     → next ≡ 0 → (l : ℕ) → l < k + 1 → P l
 none_more P k {all} {word} h w e z = let p = (union-zero all word).0 (sym e ∙ z) in below_more _ _ (h p.0) (w p.1)
-
-pub both_zero : {a b c : Set} → c ≡ union a b → c ≡ 0 → (a ≡ 0) × (b ≡ 0)
-both_zero {a} {b} e z = (union-zero a b).0 (sym e ∙ z)

@@ -17,20 +17,17 @@ ghost use Rattle.views.specs.Rows.{Moved, Kept};
 ghost use Rattle.views.specs.Strays.{strays};
 ghost use Rattle.views.specs.Own.{AddsOwn};
 
+use crate::gathered;
+
 // What is wrong with some mask, by code 10; 0 where nothing is. All keys are looked at, with no branch.
 fn wrong(fresh: &[u64], keys: &[u64], n: usize) -> u64
     requires { (n ≤ max_keys) × FreshRoom fresh.now × KeysRoom keys.now }
     ensures { result ≡ 0 → (k : ℕ) → k < n → (without 1 (slice_index fresh.now k) ≡ 0) × (without (slice_index fresh.now k) (slice_index keys.now k) ≡ 0) }
 {
-    let mut all = 0u64;
-    for k in 0..n {
+    gathered(n, |k| {
         let mask = fresh[k];
-        all = sets::union(
-            all,
-            sets::union(sets::without(1, mask), sets::without(mask, keys[k])),
-        );
-    }
-    all
+        sets::union(sets::without(1, mask), sets::without(mask, keys[k]))
+    })
 }
 
 // Code 10: the least key whose mask lacks version 0 or holds a version that does not exist. It is looked for only where some mask is wrong.
@@ -58,12 +55,7 @@ fn lacked(fresh: &[u64], views: &[u64], base: usize, n: usize) -> u64
     requires { (n ≤ max_keys) × FreshRoom fresh.now × (base + n ≤ length views.now) }
     ensures { result ≡ 0 → (k : ℕ) → k < n → without (slice_index views.now (base + k)) (slice_index fresh.now k) ≡ 0 }
 {
-    let mut all = 0u64;
-    for k in 0..n {
-        let view = views[base + k];
-        all = sets::union(all, sets::without(view, fresh[k]));
-    }
-    all
+    gathered(n, |k| sets::without(views[base + k], fresh[k]))
 }
 
 // Code 12 and clause 1: the least version of the view at `base` that the masks lack. It is looked for only where there is one.
@@ -119,14 +111,9 @@ fn astray(fresh: &[u64], views: &[u64], base: usize, ranks: u64, n: usize) -> u6
     requires { (n ≤ max_keys) × FreshRoom fresh.now × (base + n ≤ length views.now) }
     ensures { result ≡ 0 → (k : ℕ) → k < n → false ≡ strays (slice_index fresh.now k) (slice_index views.now (base + k)) ranks k }
 {
-    let mut all = 0u64;
-    for k in 0..n {
-        all = sets::union(
-            all,
-            strayed(fresh[k], views[base + k], ranks, state::Key(k)),
-        );
-    }
-    all
+    gathered(n, |k| {
+        strayed(fresh[k], views[base + k], ranks, state::Key(k))
+    })
 }
 
 // Code 14: the least key without operation where the masks are not the view at `base`. It is looked for only where there is one.
@@ -150,11 +137,7 @@ pub fn same(fresh: &[u64], masks: &[u64], base: usize, n: usize) -> bool
     requires { (n ≤ length fresh.now) × (base + n ≤ length masks.now) }
     ensures { T result ↔ ((k : ℕ) → k < n → slice_index fresh.now k ≡ slice_index masks.now (base + k)) }
 {
-    let mut all = 0u64;
-    for k in 0..n {
-        all = sets::union(all, fresh[k] ^ masks[base + k]);
-    }
-    all == 0
+    gathered(n, |k| fresh[k] ^ masks[base + k]) == 0
 }
 
 // Whether the masks are those at `base` with the versions that the commit wrote, asked after it was made. All keys are looked at, with no branch.
@@ -170,12 +153,11 @@ pub fn adds_own(
     ensures { (s : Store) (u : View) (c : Commit) → Made s u c → next_number s ≡ me.0 → s.keys ≡ n → KeepsVersions (update s u c) versions.now → RowAt n views.now base u → KeepsMasks n c.view_after fresh.now → T result ↔ AddsOwn s u c }
 {
     let row = state::OWNED + state::PER_COMMIT * me.0;
-    let mut all = 0u64;
-    for k in 0..n {
+    let differ = gathered(n, |k| {
         let own = sets::union(views[base + k], versions[row + k]);
-        all = sets::union(all, fresh[k] ^ own);
-    }
-    all == 0
+        fresh[k] ^ own
+    });
+    differ == 0
 }
 
 // A commit's number, which was judged from the view at `base`: the view is stored in the commit's own row, and the masks become the view at `base`.
@@ -190,8 +172,10 @@ pub fn store_and_keep(
     ensures { Moved fresh.now base (view_place (stored_row me.0) 0) n views.old views.new }
 {
     let place = state::CLIENT_ROWS + state::PER_CLIENT * me.0;
-    views.copy_within(base..base + n, place);
-    views[base..base + n].copy_from_slice(&fresh[..n]);
+    for k in 0..n {
+        views[place + k] = views[base + k];
+        views[base + k] = fresh[k];
+    }
 }
 
 // The masks become the view at `base`.
@@ -199,5 +183,7 @@ pub fn keep(views: &mut [u64], base: usize, fresh: &[u64], n: usize)
     requires { (n ≤ length fresh.now) × (base + n ≤ length views.old) }
     ensures { Kept fresh.now base n views.old views.new }
 {
-    views[base..base + n].copy_from_slice(&fresh[..n]);
+    for k in 0..n {
+        views[base + k] = fresh[k];
+    }
 }

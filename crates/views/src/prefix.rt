@@ -13,6 +13,7 @@ ghost use Rattle.state.specs.Keeps.{IsSet};
 ghost use Rattle.views.specs.Viewed.{NewMasks};
 ghost use Rattle.views.specs.Prefix.{Downward, Prefixes, Lacks};
 
+use crate::gathered;
 use state::Key;
 
 // Empty where the mask holds all versions up to its newest: the next number then has no digit in common with it.
@@ -27,11 +28,7 @@ pub fn prefixes(fresh: &[u64], n: usize) -> bool
     requires { n ≤ length fresh.now }
     ensures { result ≡ true → Prefixes fresh.now n }
 {
-    let mut found = 0u64;
-    for mask in &fresh[..n] {
-        found = sets::union(found, gaps(*mask));
-    }
-    found == 0
+    gathered(n, |k| gaps(fresh[k])) == 0
 }
 
 // The commits of which masks hold a version, and those of which they lack one.

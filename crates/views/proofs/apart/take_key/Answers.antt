@@ -10,22 +10,15 @@ use Rattle.views.proofs.apart.take_key.Goals.{After-rest}
 less : (a b m : ℕ) → b < m → bit_and a b < m
 less a b m l = omega (arith, and_le_r a b)
 
-pub loop-met-init : goal.loop-met-init
-loop-met-init c = (omega arith, (c.type_inv.left _).fits, omega arith, λ s d h p. (p, λ t x. x, λ j. (λ x. x, λ x. x)))
-
-pub loop-met-smaller : goal.loop-met-smaller
-loop-met-smaller c = less _ _ _ c.rest.ensures.1
-
 pub loop-met-preserved : goal.loop-met-preserved
 loop-met-preserved c =
-    let (l, word, long, p) = c.loop-met.invariant in
+    let (word, p) = c.loop-met.invariant in
+    let l : c.args.k.0 < c.args.n = omega arith in
     let row = c.take_row-lacks.ensures in
     let low = c.lowest-v.ensures.0 in
     let some = c.loop-met-test.true in
     let by = c.writer_of-t.ensures in (
-      l,
       less _ c.rest.result (2 ^ 64) (omega (arith, c.rest.ensures.1)),
-      row.0.long ∙ long,
       λ s d h q.
           let (g, grows, is) = p s d h q in (
             elim c.if-lacks-ne0.branch [
@@ -39,5 +32,6 @@ loop-met-preserved c =
 
 pub returns : goal.returns
 returns c =
-    let (l, word, long, p) = c.loop-met.invariant in
-    (long, λ s d h q. let (g, grows, is) = p s d h q in (g, grows, key-parted h g _ l is c.loop-met-test.false))
+    let (word, p) = c.loop-met.invariant in
+    let l : c.args.k.0 < c.args.n = omega arith in
+    (omega arith, λ s d h q. let (g, grows, is) = p s d h q in (g, grows, key-parted h g _ l is c.loop-met-test.false))

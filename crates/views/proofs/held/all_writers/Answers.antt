@@ -2,12 +2,9 @@
 use Rattle.std.proofs.Common.{◌+◌, ◌-◌, ◌<◌, ap, ◌∙◌, drop, arith, get_or-drop, get_or-take, length-take}
 use Rattle.sets.specs.Set.{union}
 use Rattle.store.specs.Limits.{max_keys}
-use Rattle.state.proofs.Below.{from-none, key_more}
+use Rattle.state.proofs.Below.{key_more}
 use Rattle.views.specs.Writing.{WriterAt}
 use Rattle.views.proofs.held.all_writers.Goals as goal
-
-pub loop-writers-init : goal.loop-writers-init
-loop-writers-init c = from-none (WriterAt c.args.keys.now)
 
 pub loop-writers-preserved : goal.loop-writers-preserved
 loop-writers-preserved c =

@@ -1,11 +1,8 @@
 -- `views::prefix::split` meets its contract. The sets so far are those of the keys passed. Assumes nothing.
 use Rattle.std.proofs.Common.{◌≡◌, arith}
-use Rattle.state.proofs.Below.{from-none, key_more}
+use Rattle.state.proofs.Below.{key_more}
 use Rattle.views.proofs.Downward.{HeldAt, LackedAt, later-is, held-is, held_all, lacked-all}
 use Rattle.views.proofs.prefix.split.Goals as goal
-
-pub loop-k-init : goal.loop-k-init
-loop-k-init c = λ s old u masks base seen m good p. (from-none (HeldAt s old u _ _ _ masks base seen _ m good), from-none (LackedAt s old u _ _ _ masks base seen _ m good))
 
 pub loop-k-preserved : goal.loop-k-preserved
 loop-k-preserved c =
