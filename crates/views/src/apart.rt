@@ -85,14 +85,11 @@ fn take_all(versions: &[u64], left: &mut [u64], n: usize) -> Writers
     requires { (n ≤ max_keys) × VersionsRoom versions.now × (length left.old ≡ max_keys) }
     ensures { (s : Store) (d : View) → Versions s d n versions.now → RowAt n left.old 0 d → Parted s d result.all result.half }
 {
-    let mut all = 0u64;
-    let mut half = 0u64;
+    let mut found = Writers { all: 0, half: 0 };
     for k in 0..n {
-        let found = take_key(versions, left, Key(k), n, Writers { all, half });
-        all = found.all;
-        half = found.half;
+        found = take_key(versions, left, Key(k), n, found);
     }
-    Writers { all, half }
+    found
 }
 
 // The commits with a version that the view at `base` holds and the one at `other` does not; and those of them with another version.

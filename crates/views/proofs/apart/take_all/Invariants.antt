@@ -7,4 +7,4 @@ use Rattle.views.proofs.apart.take_all.Given as goal
 
 abbrev pub invariant-loop-k : goal.invariant-loop-k
 invariant-loop-k l =
-    (s : Store) (d : View) → Versions s d l.n l.versions → RowAt l.n l.initial.left 0 d → Parting s d l.n l.left l.all l.half × ((q : ℕ) → q < l.k → PartedAt s d l.all q)
+    (s : Store) (d : View) → Versions s d l.n l.versions → RowAt l.n l.initial.left 0 d → Parting s d l.n l.left l.found.all l.found.half × ((q : ℕ) → q < l.k → PartedAt s d l.found.all q)
