@@ -16,7 +16,7 @@ use Rattle.sets.proofs.Algebra.{gives_is, gives-left}
 use Rattle.store.specs.Limits.{max_keys, numbers}
 use Rattle.state.specs.Places.{link_place, lead_place, links_length}
 use Rattle.state.specs.Keeps.{IsSet}
-use Rattle.state.proofs.Below.{below-passed, below-turn, from-none, RowWith, keys-turn, keys-passed}
+use Rattle.state.proofs.Below.{below-passed, below-turn, keys-turn, keys-passed}
 use Rattle.paths.specs.Added.{BroughtBelow, Joined, GainsAt, RowsOf, LeadsOf}
 
 -- ---- what the keys that are written bring along
@@ -24,9 +24,6 @@ use Rattle.paths.specs.Added.{BroughtBelow, Joined, GainsAt, RowsOf, LeadsOf}
 module _ (kind : ℕ) (links : List ℕ) (ranks : Set) where
   abbrev lead : ℕ → Set
   lead k = get_or links (lead_place kind k) 0
-
-  pub brought-none : IsSet 0 (BroughtBelow kind links ranks 0)
-  brought-none = from-none (RowWith lead ranks 1)
 
   module _ {k q : ℕ} (all : Set) (h : IsSet all (BroughtBelow kind links ranks k)) (l : k ≤ q) (none : (j : ℕ) → k ≤ j → j < q → ¬ T (has ranks (2 * j + 1))) where
     pub brought-turn : T (has ranks (2 * q + 1)) → {i : ℕ} → i ≡ lead_place kind q → {after : Set} → after ≡ union all (get_or links i 0) → IsSet after (BroughtBelow kind links ranks (q + 1))
@@ -36,9 +33,6 @@ module _ (kind : ℕ) (links : List ℕ) (ranks : Set) where
     brought-passed = keys-passed lead ranks 1 all h l none
 
 -- ---- words that gain a set
-
-pub joined-none : {P : ℕ → Set → Type 0} (before : List ℕ) → ((j : ℕ) (g : Set) → ¬ P j g) → Joined P before before
-joined-none before not = record { long = refl; gains = λ j g p. absurd (not j g p); stays = λ j n. refl }
 
 pub joined_as : {P Q : ℕ → Set → Type 0} {before after : List ℕ} → ((j : ℕ) (g : Set) → P j g ↔ Q j g) → Joined P before after → Joined Q before after
 joined_as e h = record { long = h.long; gains = λ j g q. h.gains j g ((e j g).1 q); stays = λ j n. h.stays j (λ g p. n g ((e j g).0 p)) }
@@ -91,9 +85,6 @@ joined-both {P} {Q} {before} {after} h place first into x {i₀} {i₁} e₀ e�
 -- ---- what the readers of the keys that are read bring along
 
 module _ (ranks first into : Set) where
-  pub leads-none : (j : ℕ) (g : Set) → ¬ LeadsOf ranks 0 first into j g
-  leads-none j g (k, l, _) = absurd (omega arith)
-
   abbrev LeadAt : ℕ → Set → ℕ → Type 0
   LeadAt j g k = T (has ranks (2 * k)) × GainsAt lead_place first into k j g
 
@@ -128,9 +119,6 @@ abbrev pub RowsTaken : Set → Set → Set → Set → ℕ → Set → Type 0
 RowsTaken over first into left j g = (t : ℕ) × T (has over t) × (¬ T (has left t)) × GainsAt link_place first into t j g
 
 module _ (over first into : Set) where
-  pub rows_none : (j : ℕ) (g : Set) → ¬ RowsTaken over first into over j g
-  rows_none j g (t, o, n, _) = n o
-
   pub rows_all : (j : ℕ) (g : Set) → RowsTaken over first into 0 j g ↔ RowsOf over first into j g
   rows_all j g = (λ (t, o, _, e). (t, o, e), λ (t, o, e). (t, o, has-none t, e))
 

@@ -13,7 +13,7 @@ use Rattle.sets.proofs.Laws.{single-has, single-only, has-none, has-below, below
 use Rattle.sets.proofs.Algebra.{without_is}
 use Rattle.state.specs.Keeps.{IsSet}
 use Rattle.state.specs.Rows.{InRows}
-use Rattle.state.proofs.Sets.{is_set-as, is_set-none, is_set-union}
+use Rattle.state.proofs.Sets.{is_set-as, is_set-union}
 
 -- ---- the run that a set begins with
 
@@ -49,11 +49,7 @@ module _ (rows : List ℕ) (from : ℕ) where
   row_of : (t : ℕ) → IsSet (get_or rows (from + t) 0) (InRows rows from (single t))
   row_of t i = (λ r. (t, single-has t, r), λ (x, m, r). subst (λ (n : ℕ). T (has (get_or rows (from + n) 0) i)) (single-only t x m) r)
 
-  -- a sweep begins with no row,
-  pub sweep-starts : IsSet 0 (InRows rows from (below 0))
-  sweep-starts = is_set-none (λ a (t, m, r). absurd (omega (arith, below-has 0 t m)))
-
-  -- and takes the next one
+  -- a sweep takes the next one
   pub sweep-on : (t : ℕ) (all : Set) → IsSet all (InRows rows from (below t)) → (j : ℕ) → j ≡ from + t → {next : Set} → next ≡ union all (get_or rows j 0)
       → IsSet next (InRows rows from (below (t + 1)))
   sweep-on t all is j e = rw e (rows-joined (below t) (single t) (below (t + 1)) (λ i. (out i, back i)) all (get_or rows (from + t) 0) is (row_of t))

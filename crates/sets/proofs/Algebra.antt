@@ -7,10 +7,10 @@ use native.Mathlib.Nat.{mod-eq_of_lt, one-mul, pow-suc}
 use native.Mathlib.Numerals.{one-add}
 use native.Mathlib.Omega.{arith}
 use native.Mathlib.Decide.{ℕ_discrete, dec_lt}
-use lib.Dec.{T, eqb, eqb→eq, ltb}
+use lib.Dec.{T, eqb, eqb→eq}
 use lib.Bits.{bit_and, bit_or, differ, or_comm, or_lt, or_add_and, xor_lt, and_le_l, and_le_r, or_shifted_r}
 use lib.Pow.{pow_pos, pow-lt, mod-pow-add}
-use Rattle.search.proofs.Tests.{same, same_test, or_right, eq_test, and_is, not_is, stable, lt-is}
+use Rattle.search.proofs.Tests.{same, same_test, or_right, eq_test, and_is, not_is, stable}
 use Rattle.sets.specs.Set.{Set, has, insert, single, union, without, below, Gives}
 use Rattle.sets.proofs.Digits.{digit, at_place, digit_and, digit_or, digit-xor}
 use Rattle.sets.proofs.Laws.{has-none, single-has, single-only, has-below, below-has, below-small}
@@ -72,9 +72,6 @@ insert-union t m = or_comm m (single t)
 
 pub has-insert-is : (t m i : ℕ) → has (insert t m) i ≡ (eqb i t || has m i)
 has-insert-is t m i = ap (λ (x : Set). has x i) (insert-union t m) ∙ has-union (single t) m i ∙ ap (λ (b : Bool). b || has m i) (has-single t i)
-
-pub has-below-is : (n i : ℕ) → has (below n) i ≡ ltb i n
-has-below-is n i = same_test _ _ (λ h. (lt-is i n).1 (below-has n i h)) (λ h. has-below n i ((lt-is i n).0 h))
 
 -- ---- sets that hold the same numbers
 

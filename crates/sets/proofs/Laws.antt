@@ -122,10 +122,6 @@ module _ (m : ℕ) (p : 0 < m) (l : m < 2 ^ 64) where
       let q : m / 2 ^ top.0 ≡ 1 = div-eq_of_lt-le (2 ^ top.0) (omega (arith, top.2)) (omega arith) in
       rw highest-top (eq_test (digit m top.0) 1 (omega arith))
 
-  -- and so large only
-  highest-large : m < 2 ^ suc (highest m)
-  highest-large = rw highest-top top.3
-
   pub highest-most : (j : ℕ) → T (has m j) → j ≤ highest m
   highest-most j h = go (dec_le j (highest m))
     where

@@ -1,24 +1,16 @@
 -- What the code's operations on words compute, as sets. Assumes nothing.
 use mathlib.Core.Path.{◌≡◌, refl, sym, ap, ap₂, ◌∙◌}
 use mathlib.Core.Bool.{◌&&◌, not}
-use Prim.Native.Nat.{ℕ, suc, ◌+◌, ◌-◌, ◌*◌, ◌/◌, ◌%◌, ◌^◌, ◌<◌, min}
-use native.Mathlib.Nat.{add-zero, mod-eq_of_lt, mod_self, one-mul, pow-suc}
+use Prim.Native.Nat.{ℕ, suc, ◌+◌, ◌-◌, ◌*◌, ◌/◌, ◌^◌, ◌<◌, min}
+use native.Mathlib.Nat.{add-zero, mod-eq_of_lt, mod_self, pow-suc}
 use native.Mathlib.Omega.{arith}
 use lib.Dec.{eqb, eqb→eq}
 use lib.Bits.{bit_and, bit_xor, differ, and_lt, and_mask, and_self, and_zero_r, and_block, xor_self, xor_zero_r, xor_block, xor_add_and}
-use lib.Pow.{pow_pos, shl_exact, split, ones_sub-lt}
-use Rattle.sets.specs.Set.{has, single, without, below, lowest}
+use lib.Pow.{pow_pos, split, ones_sub-lt}
+use Rattle.sets.specs.Set.{single, without, below, lowest}
 use Rattle.sets.proofs.Digits.{digit, digit_and, digit-xor, at_place}
 use Rattle.sets.proofs.Laws.{has-below, lowest-low}
 use Rattle.sets.proofs.Algebra.{has-without, same-members, without-word}
-
--- (m >> i) & 1 == 1
-pub shifted-has : (m i : ℕ) → eqb (bit_and (m / 2 ^ i) 1) 1 ≡ has m i
-shifted-has m i = ap (λ (x : ℕ). eqb x 1) (and_mask (m / 2 ^ i) 1)
-
--- 1 << i
-pub one_shifted : (i : ℕ) → i < 64 → 1 * 2 ^ i % 2 ^ 64 ≡ single i
-one_shifted i l = shl_exact 1 i 64 (omega arith) (omega arith) ∙ one-mul (single i)
 
 -- !b flips each digit
 complement : (b : ℕ) → b < 2 ^ 64 → below 64 - b ≡ bit_xor b (below 64)

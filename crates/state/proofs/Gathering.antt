@@ -18,13 +18,6 @@ use Rattle.state.proofs.Sets.{is_set-union}
 pub record Gathering (rows : List ℕ) (from : ℕ) (set all left : Set) : Type 0 where
   pub is : (a : CommitNumber) → (T (has all a) ⊎ InRows rows from left a) ↔ InRows rows from set a
 
-pub gathering-starts : (rows : List ℕ) (from : ℕ) (set : Set) → Gathering rows from set 0 set
-gathering-starts rows from set = record { is = λ a. (out a, inr) }
-  where
-    out : (a : CommitNumber) → T (has 0 a) ⊎ InRows rows from set a → InRows rows from set a
-    out a (inl x) = absurd (has-none a x)
-    out a (inr y) = y
-
 pub gathering-ends : {rows : List ℕ} {from : ℕ} {set all left : Set} → Gathering rows from set all left → left ≡ 0 → IsSet all (InRows rows from set)
 gathering-ends {rows} {from} {set} {all} {left} g e a = (λ x. (g.is a).0 (inl x), λ y. go ((g.is a).1 y))
   where

@@ -1,21 +1,9 @@
 -- `paths::add` meets its contract. Assumes nothing.
-use mathlib.Core.Path.{◌∙◌}
 use native.Mathlib.Omega.{arith}
-use lib.ListN.{length-set}
 use Rattle.state.specs.Places.{note_place}
 use Rattle.paths.proofs.Added.{added, notes-stay}
 use Rattle.paths.proofs.Kept.{links-added}
 use Rattle.paths.proofs.add.Goals as goal
-
-pub bounds-links-t-2 : goal.bounds-links-t-2
-bounds-links-t-2 c = simp length-set (omega (arith, c.point.ensures.long))
-
-pub bring-requires : goal.bring-requires
-bring-requires c = simp length-set (omega (arith, c.point.ensures.long))
-
-pub shape_of-links : goal.shape_of-links
-shape_of-links c =
-    c.bring.ensures.long ∙ simp length-set c.point.ensures.long
 
 pub returns : goal.returns
 returns c =

@@ -3,11 +3,8 @@
 use Prim.Native.Nat.{◌+◌, ◌/◌}
 use native.Mathlib.Omega.{arith}
 use Rattle.state.proofs.Accesses.{next-key, left-rest, left-none}
-use Rattle.paths.proofs.Joined.{joined-none, leads-none, leads-turn, leads-passed}
+use Rattle.paths.proofs.Joined.{leads-turn, leads-passed}
 use Rattle.paths.proofs.bring.Goals as goal
-
-pub loop-twice-init : goal.loop-twice-init
-loop-twice-init c = rw c.into_iter-twice-iterator.ensures.into_iter_gives (0, omega arith, c.keys_with.ensures, joined-none _ (leads-none _ _ _))
 
 pub loop-twice-preserved : goal.loop-twice-preserved
 loop-twice-preserved c =

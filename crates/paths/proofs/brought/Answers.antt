@@ -3,13 +3,8 @@
 use Prim.Native.Nat.{◌+◌, ◌/◌}
 use native.Mathlib.Omega.{arith}
 use Rattle.state.proofs.Accesses.{next-key, left-rest, left-none}
-use Rattle.paths.proofs.Joined.{brought-none, brought-turn, brought-passed}
+use Rattle.paths.proofs.Joined.{brought-turn, brought-passed}
 use Rattle.paths.proofs.brought.Goals as goal
-
-pub loop-twice-init : goal.loop-twice-init
-loop-twice-init c =
-    let a = c.args in
-    rw c.into_iter-twice-iterator.ensures.into_iter_gives (0, omega arith, c.keys_with.ensures, brought-none 0 a.links.now a.ranks, brought-none 1 a.links.now a.ranks)
 
 pub loop-twice-preserved : goal.loop-twice-preserved
 loop-twice-preserved c =

@@ -5,12 +5,6 @@ use native.Mathlib.Omega.{arith}
 use Rattle.paths.proofs.Noted.{entered-more, entered_all}
 use Rattle.paths.proofs.catch_up.Goals as goal
 
-pub returns-then-me-eq0 : goal.returns-then-me-eq0
-returns-then-me-eq0 c = λ s k e f. absurd (omega (arith, c.if-me-eq0.true))
-
-pub loop-last-init : goal.loop-last-init
-loop-last-init c s k e f = f
-
 pub loop-last-preserved : goal.loop-last-preserved
 loop-last-preserved c s k e f =
     let called = c.enter in entered-more _ _ _ _ s k (omega (arith, c.loop-last-test.true)) called.ensures.kept called.ensures.notes (c.loop-last.invariant s k e f)

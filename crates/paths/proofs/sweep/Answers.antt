@@ -2,11 +2,8 @@
 use mathlib.Core.Path.{◌≡◌, refl}
 use native.Mathlib.Omega.{arith}
 use Rattle.store.specs.Limits.{numbers}
-use Rattle.paths.proofs.Swept.{sweep-starts, sweep-on}
+use Rattle.paths.proofs.Swept.{sweep-on}
 use Rattle.paths.proofs.sweep.Goals as goal
-
-pub loop-t-init : goal.loop-t-init
-loop-t-init c = let links = c.args.links.now in (sweep-starts links 0, sweep-starts links numbers)
 
 pub loop-t-preserved : goal.loop-t-preserved
 loop-t-preserved c =

@@ -1,14 +1,9 @@
 -- `sets::up_to` meets its contract. Assumes nothing.
 use mathlib.Core.Path.{sym, ap, ◌∙◌}
-use native.Mathlib.Omega.{arith}
 use native.Mathlib.Numerals.{add-one}
-use lib.Pow.{pow_pos}
 use Rattle.sets.specs.Set.{below}
 use Rattle.sets.proofs.Algebra.{insert-below}
 use Rattle.sets.proofs.up_to.Goals as goal
-
-pub overflow_sub-result : goal.overflow_sub-result
-overflow_sub-result c = omega (arith, c.single-last.ensures, pow_pos c.args.i)
 
 pub returns : goal.returns
 returns c = rw c.single-last.ensures (insert-below c.args.i ∙ ap below (sym (add-one c.args.i)))

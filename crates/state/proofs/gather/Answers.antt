@@ -1,9 +1,6 @@
 -- `state::gather` meets its contract. The loop's invariant: what is gathered, with what is in the rows that are left, is all. Assumes nothing.
-use Rattle.state.proofs.Gathering.{gathering-starts, gathering-on, gathering-ends}
+use Rattle.state.proofs.Gathering.{gathering-on, gathering-ends}
 use Rattle.state.proofs.gather.Goals as goal
-
-pub loop-t-init : goal.loop-t-init
-loop-t-init c = rw c.into_iter-t-iterator.ensures.into_iter_gives (gathering-starts _ _ _)
 
 pub loop-t-preserved : goal.loop-t-preserved
 loop-t-preserved c = gathering-on c.loop-t.invariant c.in-Some.ensures.steps c.union-all.ensures

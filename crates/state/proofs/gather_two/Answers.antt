@@ -1,9 +1,6 @@
 -- `state::gather_two` meets its contract: the loop of `gather`, for two parts of the array. Assumes nothing.
-use Rattle.state.proofs.Gathering.{gathering-starts, gathering-on, gathering-ends}
+use Rattle.state.proofs.Gathering.{gathering-on, gathering-ends}
 use Rattle.state.proofs.gather_two.Goals as goal
-
-pub loop-t-init : goal.loop-t-init
-loop-t-init c = rw c.into_iter-t-iterator.ensures.into_iter_gives (gathering-starts _ _ _, gathering-starts _ _ _)
 
 pub loop-t-preserved : goal.loop-t-preserved
 loop-t-preserved c =
