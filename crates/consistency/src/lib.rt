@@ -100,7 +100,7 @@ fn convert_file(file: &[u8], buffer: &mut [u8], out: &mut [u64], edition: Editio
     if room < words::REFUSAL {
         return words::NO_ROOM;
     }
-    words::put_conversion(out, converting::convert(file, buffer, edition))
+    words::put_replay(out, converting::convert(file, buffer, edition))
 }
 
 // Writes a taken file short (02, E6) at the start of `buffer`, record for record: each shift as a kind 6 that lists exactly the keys that change, each commit as

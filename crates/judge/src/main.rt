@@ -2,17 +2,13 @@
 #![tactic(auto)]
 
 use store::Store;
-use streams::Input;
 
 fn main(rt: HostRuntime) {
     // Room for one byte more than a file may have, so that a longer input is seen to be too long.
     let mut file = [0u8; Store::BYTES + 1];
-    let Input::Whole(n) = streams::read_whole(&rt, &mut rt.stdin(), b"standard input", &mut file)
-    else {
+    let Ok(n) = filters::read_file(&rt, &mut file) else {
         return;
     };
     let mut image = [0u8; Store::IMAGE];
-    let mut text = [0u8; report::LONGEST];
-    let length = report::write(judging::judge(&file[..n], &mut image), &mut text);
-    streams::write_whole(&rt, &mut rt.stdout(), b"standard output", &text[..length]);
+    filters::print(&rt, judging::judge(&file[..n], &mut image));
 }

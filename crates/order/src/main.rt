@@ -2,19 +2,8 @@
 // of a ring of links; or a refusal. Input that cannot be read is no image: it gets a line on standard error, and nothing is printed.
 #![tactic(auto)]
 
-use arranging::Arrangement;
-use judging::Answer;
 use placing::Shown;
-use state::Refusal;
 use store::Store;
-use streams::Input;
-
-// The line of a refusal.
-fn print_refusal(rt: &HostRuntime, refusal: Refusal) {
-    let mut text = [0u8; report::LONGEST];
-    let length = report::write(Answer::Refused(refusal), &mut text);
-    streams::write_whole(rt, &mut rt.stdout(), b"standard output", &text[..length]);
-}
 
 // The line of an order or a ring.
 fn print_shown(rt: &HostRuntime, shown: Shown, commits: &[u8]) {
@@ -26,13 +15,12 @@ fn print_shown(rt: &HostRuntime, shown: Shown, commits: &[u8]) {
 fn main(rt: HostRuntime) {
     // Room for one byte more than an image may have, so that a longer input is seen to be too long.
     let mut image = [0u8; Store::IMAGE + 1];
-    let Input::Whole(n) = streams::read_whole(&rt, &mut rt.stdin(), b"standard input", &mut image)
-    else {
+    let Ok(n) = filters::read_file(&rt, &mut image) else {
         return;
     };
     let mut commits = [0u8; Store::COMMITS];
     match arranging::judge_image(&image[..n], &mut commits) {
-        Arrangement::Refused(refusal) => print_refusal(&rt, refusal),
-        Arrangement::Shown(shown) => print_shown(&rt, shown, &commits),
+        Ok(shown) => print_shown(&rt, shown, &commits),
+        Err(refusal) => filters::print(&rt, Err(refusal)),
     }
 }

@@ -3,7 +3,6 @@
 #![tactic(auto)]
 
 use store::Store;
-use streams::Input;
 
 fn main(rt: HostRuntime) {
     let mut kept = [0u8; Store::BYTES];
@@ -11,12 +10,7 @@ fn main(rt: HostRuntime) {
     let mut session = pieces::open();
     // What comes after a file is seen to be too long changes nothing, and is not waited for.
     while session.total <= Store::BYTES {
-        let Input::Whole(n) = streams::read_some(
-            &rt,
-            &mut rt.stdin(),
-            b"standard input",
-            &mut piece,
-        ) else {
+        let Ok(n) = streams::read_some(&rt, &mut rt.stdin(), b"standard input", &mut piece) else {
             return;
         };
         if n == 0 {
@@ -26,9 +20,6 @@ fn main(rt: HostRuntime) {
         session = step.session;
     }
     let mut image = [0u8; Store::IMAGE];
-    let mut text = [0u8; report::LONGEST];
     let end = pieces::finish(session, &kept, &mut image);
-    let answer = end.answer;
-    let length = report::write(answer, &mut text);
-    streams::write_whole(&rt, &mut rt.stdout(), b"standard output", &text[..length]);
+    filters::print(&rt, end.answer);
 }

@@ -2,19 +2,17 @@
 // as crates/filters says.
 #![tactic(auto)]
 
-use converting::Conversion;
 use store::Store;
-use streams::Input;
 
 fn main(rt: HostRuntime) {
     // Room for one byte more than a file may have, so that a longer input is seen to be too long.
     let mut file = [0u8; Store::BYTES + 1];
-    let Input::Whole(n) = filters::read_file(&rt, &mut file) else {
+    let Ok(n) = filters::read_file(&rt, &mut file) else {
         return;
     };
     let mut buffer = [0u8; Store::BYTES];
     match converting::short(&file[..n], &mut buffer) {
-        Conversion::Refused(refusal) => filters::refuse(&rt, refusal),
-        Conversion::Written(size) => filters::write_file(&rt, &buffer, size),
+        Ok(size) => filters::write_file(&rt, &buffer, size),
+        Err(refusal) => filters::refuse(&rt, refusal),
     }
 }

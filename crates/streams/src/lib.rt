@@ -10,14 +10,9 @@ use std::io::{Cursor, Error, ErrorKind, Read, Write};
 use std::thread;
 use std::time::Duration;
 
-// How the reading of a stream ended.
-#[derive(Drop)]
-pub enum Input {
-    // All was read that was asked for, or as much as the buffer takes: so many bytes.
-    Whole(usize),
-    // A read failed. What was read before it is no input.
-    Failed,
-}
+// A read failed, and that was told. What was read before it is no input.
+#[derive(Clone, Copy)]
+pub struct Failed;
 
 // How often a call that moved no byte is made again before it counts as failed: for an hour, where each time there is a pause of 10 milliseconds.
 const PATIENCE: usize = 360000;
@@ -76,16 +71,21 @@ fn again(rt: &HostRuntime, left: usize, name: &[u8], error: Error) -> bool
 
 // Reads what there is, as soon as there is any, and no more than the buffer takes: 0 bytes at the end of the input, or for an empty buffer; `name` is what a
 // failure is told of.
-pub fn read_some<R: Read>(rt: &HostRuntime, from: &mut R, name: &[u8], buffer: &mut [u8]) -> Input
+pub fn read_some<R: Read>(
+    rt: &HostRuntime,
+    from: &mut R,
+    name: &[u8],
+    buffer: &mut [u8],
+) -> Result<usize, Failed>
     ensures { Within result buffer.new }
 {
     let mut left = PATIENCE;
     loop {
         match from.read(buffer) {
-            Ok(n) => return Input::Whole(n),
+            Ok(n) => return Ok(n),
             Err(error) => {
                 if !again(rt, left, name, error) {
-                    return Input::Failed;
+                    return Err(Failed);
                 }
                 left = left - 1;
             }
@@ -100,7 +100,7 @@ fn read_on<R: Read>(
     name: &[u8],
     buffer: &mut [u8],
     done: usize,
-) -> Input
+) -> Result<usize, Failed>
     requires { done ≤ length buffer.old }
     ensures { done + bytes_read result ≤ length buffer.new }
 {
@@ -108,20 +108,23 @@ fn read_on<R: Read>(
 }
 
 // Reads to the end of the input, or until the buffer is full; `name` is what a failure is told of.
-pub fn read_whole<R: Read>(rt: &HostRuntime, from: &mut R, name: &[u8], buffer: &mut [u8]) -> Input
+pub fn read_whole<R: Read>(
+    rt: &HostRuntime,
+    from: &mut R,
+    name: &[u8],
+    buffer: &mut [u8],
+) -> Result<usize, Failed>
     ensures { Within result buffer.new }
 {
     let mut done: usize = 0;
     while done < buffer.len() {
-        let Input::Whole(n) = read_on(rt, from, name, buffer, done) else {
-            return Input::Failed;
-        };
+        let n = read_on(rt, from, name, buffer, done)?;
         if n == 0 {
-            return Input::Whole(done);
+            break;
         }
         done = done + n;
     }
-    Input::Whole(done)
+    Ok(done)
 }
 
 // Tells of a write that took no byte and did not fail: there is no reason of the system's to tell.

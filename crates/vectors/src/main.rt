@@ -9,7 +9,7 @@ use std::env::{Env, FillError};
 use std::io::{Error, ErrorKind};
 use std::{fs, str};
 use store::Store;
-use streams::Input;
+use streams::Failed;
 
 // No path of the system's is longer.
 const NAME: usize = 4096;
@@ -26,18 +26,18 @@ fn put_report(out: &mut [u8], name: &[u8], file: &[u8]) -> usize
 }
 
 // The file of that name, or as much of it as the buffer takes. One that cannot be opened is told of as one that cannot be read.
-fn read_file(rt: &HostRuntime, name: &[u8], file: &mut [u8]) -> Input
+fn read_file(rt: &HostRuntime, name: &[u8], file: &mut [u8]) -> Result<usize, Failed>
     ensures { Within result file.new }
 {
     let Ok(path) = str::from_utf8(name) else {
         streams::tell_error(rt, name, Error::from(ErrorKind::InvalidFilename));
-        return Input::Failed;
+        return Err(Failed);
     };
     match fs::open(rt, path) {
         Ok(mut opened) => streams::read_whole(rt, &mut opened, name, file),
         Err(error) => {
             streams::tell_error(rt, name, error);
-            Input::Failed
+            Err(Failed)
         }
     }
 }
@@ -52,7 +52,7 @@ fn judge_argument(rt: &HostRuntime, i: usize) -> bool {
         Err(FillError::NotPresent) => return false,
     };
     let mut file = [0u8; Store::BYTES + 1];
-    let Input::Whole(n) = read_file(rt, &name[..length], &mut file) else {
+    let Ok(n) = read_file(rt, &name[..length], &mut file) else {
         return true;
     };
     let mut out = [0u8; NAME + 1 + report::LONGEST];

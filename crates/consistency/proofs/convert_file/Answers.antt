@@ -12,5 +12,5 @@ returns-then-room-lt-REFUSAL c = record { room = λ l. (refl, refl, refl); answe
 pub returns : goal.returns
 returns c =
     let wrote = c.convert.ensures in
-    let put = c.put_conversion.ensures in
+    let put = c.put_replay.ensures in
     let told = told-words (λ n. n ∷ []) wrote.answer c.args.out.now _ _ put.0 put.1 in record { room = λ l. absurd (omega arith); answer = λ l. (told.0, told.1, wrote.written, wrote.same) }

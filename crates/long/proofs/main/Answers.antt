@@ -4,4 +4,4 @@ use Rattle.answer.proofs.Converted.{written-within}
 use Rattle.long.proofs.main.Goals as goal
 
 pub write_file-requires : goal.write_file-requires
-write_file-requires c = omega (arith, written-within _ _ _ _ (sym c.in-Written.ensures.answer), c.long.auto.buffer)
+write_file-requires c = omega (arith, written-within _ _ _ _ (sym c.in-Ok-long.ensures.answer), c.long.auto.buffer)

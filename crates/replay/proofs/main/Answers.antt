@@ -4,4 +4,4 @@ use Rattle.answer.proofs.Written.{written-within}
 use Rattle.replay.proofs.main.Goals as goal
 
 pub write_file-requires : goal.write_file-requires
-write_file-requires c = omega (arith, written-within _ _ _ (sym c.in-Written.ensures.answer), c.write.auto.buffer)
+write_file-requires c = omega (arith, written-within _ _ _ (sym c.in-Ok-write.ensures.answer), c.write.auto.buffer)

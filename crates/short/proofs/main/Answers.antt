@@ -4,4 +4,4 @@ use Rattle.answer.proofs.Converted.{written-within}
 use Rattle.short.proofs.main.Goals as goal
 
 pub write_file-requires : goal.write_file-requires
-write_file-requires c = omega (arith, written-within _ _ _ _ (sym c.in-Written.ensures.answer), c.short.auto.buffer)
+write_file-requires c = omega (arith, written-within _ _ _ _ (sym c.in-Ok-short.ensures.answer), c.short.auto.buffer)
