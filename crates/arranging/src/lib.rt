@@ -18,10 +18,10 @@ pub fn judge_image(image: &[u8], out: &mut [u8]) -> Result<Shown, Refusal>
     ensures holds { ImageClaim image.now }
 {
     if !reading::shape::shape(image) {
-        return Err(Refusal::of_record(Code::NoImage, 0));
+        return Err(Refusal::of_record(Code::NoImage as usize, 0));
     }
     if out.len() < Store::COMMITS {
-        return Err(Refusal::of_record(Code::Room, 0));
+        return Err(Refusal::of_record(Code::Room as usize, 0));
     }
     let mut rows = [0u64; Store::NUMBERS];
     reading::linking::fill(image, &mut rows);

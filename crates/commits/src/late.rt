@@ -57,7 +57,7 @@ fn sight_after(
     let base = state::PER_CLIENT * client;
     let held = sight(number, versions, keys, fresh, views, base, seen[client], n)?;
     if let Some(k) = views::masks::stray(fresh, views, base, ranks, n) {
-        return Err(Refusal::of_key(Code::Stray, number, k));
+        return Err(Refusal::of_key(Code::Stray as usize, number, k));
     }
     Ok(held)
 }

@@ -132,7 +132,7 @@ pub fn commit_to(
     let client = at.client;
     let session = at.session;
     if (session as u64) < sessions[state::BAR + client] {
-        return Err(Refusal::of_record(Code::SessionNumber, number));
+        return Err(Refusal::of_record(Code::SessionNumber as usize, number));
     }
     let ranks = at.ranks;
     view_after(file, at, views, fresh, n);

@@ -17,10 +17,10 @@ pub fn finish(file: &[u8], buffer: &mut [u8], h: Header, edition: Edition) -> Re
 {
     let whole = records::size(edition, file, h);
     if Store::BYTES < whole {
-        return Err(Refusal::of_record(Code::TooLong, 0));
+        return Err(Refusal::of_record(Code::TooLong as usize, 0));
     }
     if buffer.len() < whole {
-        return Err(Refusal::of_record(Code::Room, 0));
+        return Err(Refusal::of_record(Code::Room as usize, 0));
     }
     writing::put_head(buffer, whole, h.keys, h.clients, h.records);
     records::write(edition, file, buffer, h);

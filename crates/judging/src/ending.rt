@@ -30,7 +30,7 @@ pub fn finish(
     let n = header.keys;
     let whole = imaging::size(keys, n, count);
     if buffer.len() < whole {
-        return Err(Refusal::of_record(Code::ImageRoom, 0));
+        return Err(Refusal::of_record(Code::ImageRoom as usize, 0));
     }
     imaging::write(buffer, versions, keys, commits, views, n, count, whole);
     Ok(Judged {

@@ -127,13 +127,13 @@ fn answer(was: Session, kept: &[u8], image: &mut [u8]) -> Answer
 {
     let total = was.total;
     if was.closed != 0 {
-        return Err(Refusal::of_record(Code::Closed, 0));
+        return Err(Refusal::of_record(Code::Closed as usize, 0));
     }
     if Store::BYTES < total {
-        return Err(Refusal::of_record(Code::FileLength, 0));
+        return Err(Refusal::of_record(Code::FileLength as usize, 0));
     }
     if kept.len() < total {
-        return Err(Refusal::of_record(Code::Room, 0));
+        return Err(Refusal::of_record(Code::Room as usize, 0));
     }
     judging::judge(&kept[..total], image)
 }

@@ -21,11 +21,11 @@ pub fn finish(
     ensures { (replay_of result ≡ replay_answer file.now (length buffer.old)) × (buffer.new ≡ replay_after file.now buffer.old) }
 {
     if let Err(f) = verdicts.ser {
-        return Err(Refusal::of_version(Code::NotSerial, f.record, f.key, f.version));
+        return Err(Refusal::of_version(Code::NotSerial as usize, f.record, f.key, f.version));
     }
     let whole = records::size(file, h);
     if buffer.len() < whole {
-        return Err(Refusal::of_record(Code::Room, 0));
+        return Err(Refusal::of_record(Code::Room as usize, 0));
     }
     writing::put_head(buffer, whole, h.keys, h.clients, 2 * count);
     records::write(file, buffer, h);

@@ -21,7 +21,7 @@ pub fn report(file: &[u8], image: &mut [u8], table: &mut [u64]) -> Answer
 {
     let judged = judging::judge(file, image)?;
     if table.len() < judged.commits {
-        return Err(Refusal::of_record(Code::Rows, 0));
+        return Err(Refusal::of_record(Code::Rows as usize, 0));
     }
     gathering::fill(&image[..judged.image_length], table);
     Ok(judged)

@@ -26,9 +26,9 @@ pub fn sight(
         → SightSays number s u result }
 {
     if let Some(k) = views::masks::bad_mask(fresh, keys, n) {
-        return Err(Refusal::of_key(Code::Mask, number, k));
+        return Err(Refusal::of_key(Code::Mask as usize, number, k));
     }
     views::held::viewed(versions, keys, fresh, views, base, seen, n).map_err(
-        |half| Refusal::of_version(Code::HalfHeld, number, half.key, half.version),
+        |half| Refusal::of_version(Code::HalfHeld as usize, number, half.key, half.version),
     )
 }

@@ -62,7 +62,7 @@ fn shift_on(
     let base = state::PER_CLIENT * client;
     let held = masks::sight(number, versions, keys, fresh, views, base, seen[client], n)?;
     if let Some(place) = views::masks::lost(fresh, views, base, n) {
-        return Err(Refusal::of_version(Code::Lost, number, place.key, place.version));
+        return Err(Refusal::of_version(Code::Lost as usize, number, place.key, place.version));
     }
     views::masks::keep(views, base, fresh, n);
     seen[client] = held;

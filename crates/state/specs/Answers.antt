@@ -4,8 +4,6 @@ use Rattle.std.proofs.Math.Option.{Option, some, none}
 use Rattle.store.specs.Missing.{Place}
 use Rattle.store.specs.Update.{Visible}
 use Rattle.store.specs.Refusal.{Refusal, Sighting}
-use Rattle.state.specs.declared.Code.{Code}
-use Rattle.state.specs.declared.Code.TheVariants.{FileLength, SessionNumber, Mask, HalfHeld, Lost, Read, Stray, ImageRoom, NotSerial, Room, Closed, NoImage, Rows, TooLong}
 use Rattle.state.specs.declared.Key.{Key}
 use Rattle.state.specs.declared.Place.{Place as Placed}
 use Rattle.state.specs.declared.Refusal.{Refusal as Refused}
@@ -30,23 +28,6 @@ visible_of v = record { value = v.value; version = v.version.0; writer = v.write
 abbrev pub sighting_of : Result (Unit {0}) WrongRead → Option Sighting
 sighting_of (Err r) = some (record { key = r.key.0; sees = visible_of r.sees })
 sighting_of (Ok _) = none
-
--- the number of what a refusal is about
-abbrev pub number_of : Code → ℕ
-number_of FileLength = 1
-number_of SessionNumber = 9
-number_of Mask = 10
-number_of HalfHeld = 11
-number_of Lost = 12
-number_of Read = 13
-number_of Stray = 14
-number_of ImageRoom = 15
-number_of NotSerial = 16
-number_of Room = 17
-number_of Closed = 18
-number_of NoImage = 20
-number_of Rows = 21
-number_of TooLong = 22
 
 -- the refusal that is answered
 abbrev pub refusal_of : Refused → Refusal

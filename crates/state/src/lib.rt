@@ -10,7 +10,7 @@ ghost use Rattle.store.specs.Limits.{max_keys};
 ghost use Rattle.state.specs.Places.{per_key, numbers, writer_in};
 ghost use Rattle.store.specs.Refusal.{refuse, refuse_key, refuse_place, refuse_read};
 ghost use Rattle.state.specs.Accesses.{Left};
-ghost use Rattle.state.specs.Answers.{number_of, visible_of, refusal_of};
+ghost use Rattle.state.specs.Answers.{visible_of, refusal_of};
 ghost use Rattle.state.specs.Lookup.{visible_in};
 ghost use Rattle.state.specs.Room.{VersionsRoom};
 ghost use Rattle.state.specs.Keeps.{IsSet};
@@ -82,48 +82,24 @@ pub const VALUES: usize = 2 * Store::KEYS;
 
 // ---- answers
 
-// What a refusal is about: what a record means (9 to 14), what was asked for (15 on), or a file that is too long (1). The other faults of a file's form have
-// their numbers from crates/trace.
+// What a refusal is about, with the number of each as docs/FORMAT.md has it: what a record means (9 to 14), what was asked for (15 on), or a file that is too
+// long (1). The other faults of a file's form have their numbers from crates/trace.
 #[derive(Clone, Copy)]
 pub enum Code {
-    FileLength,
-    SessionNumber,
-    Mask,
-    HalfHeld,
-    Lost,
-    Read,
-    Stray,
-    ImageRoom,
-    NotSerial,
-    Room,
-    Closed,
-    NoImage,
-    Rows,
-    TooLong,
-}
-
-impl Code {
-    // Its number, as docs/FORMAT.md has it.
-    fn number(self) -> usize
-        ensures { result ≡ number_of self }
-    {
-        match self {
-            Code::FileLength => 1,
-            Code::SessionNumber => 9,
-            Code::Mask => 10,
-            Code::HalfHeld => 11,
-            Code::Lost => 12,
-            Code::Read => 13,
-            Code::Stray => 14,
-            Code::ImageRoom => 15,
-            Code::NotSerial => 16,
-            Code::Room => 17,
-            Code::Closed => 18,
-            Code::NoImage => 20,
-            Code::Rows => 21,
-            Code::TooLong => 22,
-        }
-    }
+    FileLength = 1,
+    SessionNumber = 9,
+    Mask = 10,
+    HalfHeld = 11,
+    Lost = 12,
+    Read = 13,
+    Stray = 14,
+    ImageRoom = 15,
+    NotSerial = 16,
+    Room = 17,
+    Closed = 18,
+    NoImage = 20,
+    Rows = 21,
+    TooLong = 22,
 }
 
 // A refusal: its number, and the record, key, version and writer that it names (0 where not named).
@@ -147,14 +123,7 @@ pub struct Visible {
 // Refusals are made here alone, so that what a refusal has more one day is said in one place.
 impl Refusal {
     // One that names its record alone.
-    pub fn of_record(code: Code, number: usize) -> Refusal
-        ensures { refusal_of result ≡ refuse (number_of code) number }
-    {
-        Refusal::of_form(code.number(), number)
-    }
-
-    // One of a file that is out of form, by the number that the fault has in crates/trace.
-    pub fn of_form(code: usize, number: usize) -> Refusal
+    pub fn of_record(code: usize, number: usize) -> Refusal
         ensures { refusal_of result ≡ refuse code number }
     {
         Refusal {
@@ -167,11 +136,11 @@ impl Refusal {
     }
 
     // One that names a key.
-    pub fn of_key(code: Code, number: usize, key: Key) -> Refusal
-        ensures { refusal_of result ≡ refuse_key (number_of code) number key.0 }
+    pub fn of_key(code: usize, number: usize, key: Key) -> Refusal
+        ensures { refusal_of result ≡ refuse_key code number key.0 }
     {
         Refusal {
-            code: code.number(),
+            code,
             record: number,
             key,
             version: VersionNumber(0),
@@ -180,11 +149,11 @@ impl Refusal {
     }
 
     // One that names a version of a key.
-    pub fn of_version(code: Code, number: usize, key: Key, version: VersionNumber) -> Refusal
-        ensures { refusal_of result ≡ refuse_place (number_of code) number (record { key = key.0; version = version.0 }) }
+    pub fn of_version(code: usize, number: usize, key: Key, version: VersionNumber) -> Refusal
+        ensures { refusal_of result ≡ refuse_place code number (record { key = key.0; version = version.0 }) }
     {
         Refusal {
-            code: code.number(),
+            code,
             record: number,
             key,
             version,
@@ -199,7 +168,7 @@ impl Refusal {
         let version = sees.version;
         let writer = sees.writer;
         Refusal {
-            code: Code::Read.number(),
+            code: Code::Read as usize,
             record: number,
             key,
             version,

@@ -66,7 +66,7 @@ fn take_records(
             commits,
             verdicts: verdicts_from(&noted),
         }),
-        Err(Stop::Misshapen(m)) => Err(Refusal::of_form(m.code, m.record)),
+        Err(Stop::Misshapen(m)) => Err(Refusal::of_record(m.code, m.record)),
         Err(Stop::Refused(refusal)) => Err(refusal),
     }
 }
@@ -85,7 +85,7 @@ pub fn take_file(
 {
     match header_of(file) {
         Ok(h) => take_records(file, h, versions, keys, commits, views, engine),
-        Err(m) => Err(Refusal::of_form(m.code, m.record)),
+        Err(m) => Err(Refusal::of_record(m.code, m.record)),
     }
 }
 

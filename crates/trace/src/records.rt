@@ -9,14 +9,14 @@ ghost use Rattle.trace.specs.Format.{operations_at, rank_at, operation_fits, shi
 ghost use Rattle.trace.specs.Meaning.{why_number, Reading, place_after, entry_of, Answers, RecordSays, InFormAt};
 ghost use Rattle.trace.specs.Sorted.{ValuesFit, SortSays, reading_in, SortedInto};
 
-// Why a record is refused; why_number gives the code.
+// Why a record is refused, with the code of each; why_number gives it.
 #[derive(Clone, Copy)]
 pub enum Why {
-    Length,
-    Kind,
-    Client,
-    Body,
-    Many,
+    Length = 3,
+    Kind = 4,
+    Client = 6,
+    Body = 7,
+    Many = 8,
 }
 
 // The masks that a record lists, by rising key from the place `masks` on: of every key (kinds 2 and 3), of the keys in a set (kind 6), or of
@@ -74,13 +74,7 @@ pub struct Sorted {
 pub fn number(w: Why) -> usize
     ensures { result ≡ why_number w }
 {
-    match w {
-        Why::Length => 3,
-        Why::Kind => 4,
-        Why::Client => 6,
-        Why::Body => 7,
-        Why::Many => 8,
-    }
+    w as usize
 }
 
 // Where the record after this one starts. A record that is refused has none after it: its own place is answered.

@@ -11,4 +11,4 @@ take_records-requires c = record { headed = headed-of c.header_of.ensures c.in-O
 pub returns-in-Err : goal.returns-in-Err
 unfolding TakingSays
 returns-in-Err c =
-    misshapen-of _ c.header_of.ensures c.in-Err.is ∙ ap refused (sym c.of_form.ensures)
+    misshapen-of _ c.header_of.ensures c.in-Err.is ∙ ap refused (sym c.of_record.ensures)

@@ -57,7 +57,7 @@ pub returns-in-Err-Misshapen : goal.returns-in-Err-Misshapen
 unfolding TakingSays
 returns-in-Err-Misshapen c =
     let is : c.run_all-ran.result ≡ Err (Misshapen c.in-Err-Misshapen.m) = search rules in
-    ran-misshapen c.requires.headed _ c.run_all-ran.ensures.form is ∙ ap refused (sym c.of_form.ensures)
+    ran-misshapen c.requires.headed _ c.run_all-ran.ensures.form is ∙ ap refused (sym c.of_record.ensures)
 
 pub returns-in-Err-Refused : goal.returns-in-Err-Refused
 unfolding TakingSays
