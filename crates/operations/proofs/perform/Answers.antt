@@ -5,9 +5,6 @@ use Rattle.operations.specs.Answers.{ReadsSay}
 use Rattle.operations.proofs.Appended.{reads-then-writes, same-earlier, performed}
 use Rattle.operations.proofs.perform.Goals as goal
 
-pub returns-in-Wrong : goal.returns-in-Wrong
-returns-in-Wrong c = λ s u d g h. subst (ReadsSay s u d _ _ _) c.in-Wrong.is (c.note_reads.ensures s u d g)
-
 pub returns-in-Right : goal.returns-in-Right
 returns-in-Right c =
     let appended = c.append-earlier.ensures in
