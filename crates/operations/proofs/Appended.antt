@@ -26,7 +26,7 @@ use Rattle.operations.specs.Given.{Given, Appending}
 use Rattle.operations.specs.PerKey.{WrittenAt}
 use Rattle.operations.specs.Change.{free_bit, free, version_added, version_owned, key_grown, reads_noted, writes_appended}
 use Rattle.operations.proofs.Noted.{noted-wrote, keys-noted}
-use Rattle.operations.proofs.Rows.{VersionAt, WroteIn, Row, KeyRow, rows_of, of-rows, row_other, key-other, Passed, pass-none, pass-key, pass-skip}
+use Rattle.operations.proofs.Rows.{VersionAt, WroteIn, Row, KeyRow, of-rows, row_other, key-other, Passed, pass-key, pass-skip}
 
 -- ---- the next version of a key
 
@@ -186,16 +186,6 @@ pub record WritesPassed (s : Store) (c : Commit) (t : CommitNumber) (n k : ℕ) 
   pub in-keys : Passed KeyRow s.versions (writes_appended s c t).versions n k keys
 
 module _ {s : Store} {c : Commit} {versions keys values : List ℕ} {ranks n : ℕ} (g : Appending s c versions keys values ranks n) (t : CommitNumber) where
-  pub no_writes : WritesPassed s c t n 0 versions keys
-  no_writes = record {
-    in-versions = pass-none Row s.versions (writes_appended s c t).versions n versions (λ q l. rows_of g.in-versions (λ k. omega (arith, g.room-left k)) q (omega (arith, g.keys-are)));
-    in-keys = pass-none KeyRow s.versions (writes_appended s c t).versions n keys (λ q l. record {
-      room = g.in-keys.room;
-      full = g.in-keys.full q (omega (arith, g.keys-are));
-      writers = g.in-keys.writers q (omega (arith, g.keys-are));
-    });
-  }
-
   unwritten : (j : ℕ) → ¬ T (has ranks (2 * j + 1)) → (a : ℕ) → ¬ WrittenAt s c j a
   unwritten j m a y = m (subst T (writes-rank g.operations j) y.0)
 

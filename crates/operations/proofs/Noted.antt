@@ -18,7 +18,7 @@ use Rattle.state.proofs.Accesses.{next-key, left-none}
 use Rattle.operations.specs.Given.{Given}
 use Rattle.operations.specs.Change.{reader_added, reads_noted}
 use Rattle.operations.proofs.Reading.{seen-exists, seen-is}
-use Rattle.operations.proofs.Rows.{VersionAt, WroteIn, Row, rows_of, of-rows, row_other, Passed, pass-none, pass-key, pass-skip}
+use Rattle.operations.proofs.Rows.{VersionAt, WroteIn, Row, of-rows, row_other, Passed, pass-key, pass-skip}
 
 -- one version of a key gains a reader
 module _ (before : List ℕ) (k : Key) (v : VersionNumber) (t : CommitNumber) (vs : List Version) (b : k < max_keys) (l : v < length vs) (r : Row before k vs) where
@@ -86,11 +86,6 @@ ReadsPassed s u c t n k versions = Passed Row s.versions (reads_noted s u c t).v
 
 module _ {s : Store} {u : View} {c : Commit} {versions views : List ℕ} {base : ℕ} {values : List ℕ} {ranks n : ℕ}
     (g : Given s u c versions views base values ranks n) (t : CommitNumber) where
-  pub no_reads : ReadsPassed s u c t n 0 versions
-  no_reads =
-      pass-none Row s.versions (reads_noted s u c t).versions n versions
-      (λ q l. rows_of g.in-versions (λ k. omega (arith, g.sound.few k, g.room-left)) q (omega (arith, g.keys-are)))
-
   -- keys that are not read are passed at once
   skipped : (k q : ℕ) (a : List ℕ) → k ≤ q → q ≤ n → ((j : ℕ) → k ≤ j → j < q → ¬ T (has ranks (2 * j))) → ReadsPassed s u c t n k a → ReadsPassed s u c t n q a
   skipped k q a l m none =

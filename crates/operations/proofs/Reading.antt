@@ -1,12 +1,11 @@
 -- The version that a read sees: what the arrays say of it, and when the read is wrong. Assumes nothing.
-use Rattle.std.proofs.Common.{◌≡◌, ℕ, ◌+◌, ◌*◌, ◌%◌, ◌^◌, ◌<◌, ◌≤◌, Bool, true, false, not, ◌&&◌, T, eqb, ◌≢◌, ◌↔◌, List, get_or, sym, refl, ap, subst, arith}
+use Rattle.std.proofs.Common.{◌≡◌, ℕ, ◌+◌, ◌*◌, ◌<◌, ◌≤◌, Bool, true, false, not, ◌&&◌, T, eqb, ◌≢◌, ◌↔◌, List, get_or, sym, refl, ap, subst, arith}
 use mathlib.Core.Option.{some, none}
 use native.Mathlib.Decide.{ℕ_discrete, dec_lt}
 use Rattle.search.specs.Choose.{map_some, when}
 use Rattle.search.proofs.Tests.{and_is, not_is, eq_is, same}
 use Rattle.search.proofs.Search.{least-found, least-none}
 use Rattle.sets.specs.Set.{has}
-use Rattle.store.specs.Limits.{numbers}
 use Rattle.store.specs.Store.{Key, Value, View, Store, count, version, Commit}
 use Rattle.store.specs.Update.{newest, Visible, newest_visible}
 use Rattle.store.specs.Refusal.{differs, wrong_at, wrong_read}
@@ -17,10 +16,6 @@ use Rattle.state.proofs.Lookup.{visible-is}
 use Rattle.operations.specs.Given.{Given}
 
 -- ---- a writer above a value
-
--- me << 32
-pub high-shifted : (high : ℕ) → high < numbers → high * 2 ^ 32 % 2 ^ 64 ≡ high * 2 ^ 32
-high-shifted high l = omega arith
 
 -- ---- a value that may have been read
 

@@ -84,9 +84,6 @@ pub record Passed (R : List ℕ → Key → List Version → Type 0) (old new : 
   pub left : (q : Key) → k ≤ q → q < n → R a q (old q)
 
 module _ (R : List ℕ → Key → List Version → Type 0) (old new : Key → List Version) (n : ℕ) where
-  pub pass-none : (a : List ℕ) → ((q : Key) → q < n → R a q (old q)) → Passed R old new n 0 a
-  pass-none a h = record { done = λ q l. absurd (omega arith); left = λ q _ l. h q l }
-
   pub pass-key : (k : ℕ) (before after : List ℕ) → k < n → Passed R old new n k before
       → ((q : Key) → q ≢ k → q < n → (vs : List Version) → R before q vs → R after q vs) → (R before k (old k) → R after k (new k))
       → Passed R old new n (k + 1) after

@@ -1,14 +1,8 @@
 -- `operations::append` meets its contract. The keys passed have their new versions, the others are as before, and the set is that of the keys passed. Assumes nothing.
 use Rattle.std.proofs.Common.{◌+◌, ◌/◌, arith}
 use Rattle.state.proofs.Accesses.{left-rest, turn_below}
-use Rattle.state.proofs.Below.{from-none}
-use Rattle.operations.specs.PerKey.{WrittenAt}
-use Rattle.operations.proofs.Appended.{no_writes, earlier-turn, write-appended, all-earlier, writes-appended}
+use Rattle.operations.proofs.Appended.{earlier-turn, write-appended, all-earlier, writes-appended}
 use Rattle.operations.proofs.append.Goals as goal
-
-pub loop-twice-init : goal.loop-twice-init
-loop-twice-init c =
-    rw c.into_iter-twice-iterator.ensures.into_iter_gives (0, omega arith, c.keys_with.ensures, omega arith, omega arith, λ s d g. (no_writes g _, from-none (WrittenAt s d)))
 
 pub loop-twice-preserved : goal.loop-twice-preserved
 loop-twice-preserved c =

@@ -2,20 +2,12 @@
 -- passed. Assumes nothing.
 use Rattle.std.proofs.Common.{◌+◌, ◌/◌, ap, ◌∙◌, arith}
 use Rattle.store.specs.Update.{Visible}
-use Rattle.state.proofs.Accesses.{next-key, left-rest, left-none, turn_below}
-use Rattle.state.proofs.Below.{from-none}
+use Rattle.state.proofs.Accesses.{next-key, left-rest, left-none}
 use Rattle.operations.specs.PerKey.{ReadAt, LaterAt}
 use Rattle.operations.proofs.Reading.{wrong-skip, wrong-one, wrong-means, wrong-found, wrong-none}
 use Rattle.operations.proofs.PerKey.{source-read, later-read, reads-turn, all-sources, all-later}
-use Rattle.operations.proofs.Noted.{no_reads, read-noted, seen-left, reads-noted}
+use Rattle.operations.proofs.Noted.{read-noted, seen-left, reads-noted}
 use Rattle.operations.proofs.note_reads.Goals as goal
-
-pub loop-twice-init : goal.loop-twice-init
-loop-twice-init c =
-    rw c.into_iter-twice-iterator.ensures.into_iter_gives (0, omega arith, c.keys_with.ensures, omega arith, λ s u d g. (λ q l. absurd (omega arith), no_reads g _, λ kept o. (from-none (ReadAt s u d), from-none (LaterAt s u d))))
-
-pub bounds-views-base : goal.bounds-views-base
-bounds-views-base c = omega (arith, turn_below c.loop-twice.invariant.2 c.in-Some.ensures.steps)
 
 pub returns-then-values-k : goal.returns-then-values-k
 returns-then-values-k c =
