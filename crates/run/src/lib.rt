@@ -18,7 +18,7 @@ ghost use Rattle.run.specs.Ran.{header_with, form_of, Starts, RanSays};
 use commits::Engine;
 use one::one_record;
 use state::Refusal;
-use trace::form::{Header, Misshapen, counted, records_form, refused_at};
+use trace::form::{Fault, Header, Misshapen, counted, records_form, refused_at};
 use trace::records;
 use trace::records::{Sorted, Why};
 
@@ -108,7 +108,7 @@ pub fn run_all(
     }
     if at != file.len() {
         return Err(Stop::Misshapen(Misshapen {
-            code: 5,
+            code: Fault::BytesLeft as usize,
             record: records,
         }));
     }

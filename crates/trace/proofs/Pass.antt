@@ -1,6 +1,6 @@
 -- The pass over the records of a file: what it says at each place that it comes to, of the records that are left, and so at its end of the file. Assumes nothing.
 use Prim.Native.Nat.{ℕ, suc, ◌+◌, ◌-◌, ◌≤◌, ◌<◌}
-use mathlib.Core.Path.{◌≡◌, refl, sym, ap, ◌∙◌, subst}
+use mathlib.Core.Path.{◌≡◌, refl, sym, ◌∙◌, subst}
 use mathlib.Core.Logic.{◌≢◌}
 use mathlib.Core.List.{List, [], ◌∷◌}
 use native.Mathlib.Omega.{arith}
@@ -18,7 +18,7 @@ use Rattle.trace.specs.Result.{Result, refused}
 use Rattle.trace.specs.Entry.{Entry}
 use Rattle.trace.specs.Format as Format
 use Rattle.trace.specs.Format.{misshapen, whole, record_at, commits_with, on_record, entries_from}
-use Rattle.trace.specs.Meaning.{why_number, entry_of, Reading, read_whole, reading_of, place_after, PlacesFit, RecordSays, counted_of, Form, misshapen_at, header_of, FormSays}
+use Rattle.trace.specs.Meaning.{why_number, entry_of, Reading, read_whole, reading_of, PlacesFit, RecordSays, counted_of, Form, misshapen_at, header_of, FormSays}
 use Rattle.trace.specs.declared.records.Why.{Why}
 use Rattle.trace.specs.declared.records.Why.TheVariants.{Many}
 use Rattle.trace.specs.declared.records.Whole.{Whole}

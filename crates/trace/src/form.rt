@@ -16,6 +16,14 @@ pub struct Header {
     pub records: usize,
 }
 
+// What is wrong with a file outside its records, with the code of each: its length, its header, "bytes left after the counted records".
+#[derive(Clone, Copy)]
+pub enum Fault {
+    FileLength = 1,
+    Header = 2,
+    BytesLeft = 5,
+}
+
 // What is not in form: its code, and the number of the record where it is found.
 #[derive(Clone, Copy)]
 pub struct Misshapen {
@@ -68,7 +76,7 @@ pub fn records_form(s: &[u8], h: Header, at: usize, index: usize, commits: usize
     }
     if r.at != s.len() {
         return Err(Misshapen {
-            code: 5,
+            code: Fault::BytesLeft as usize,
             record: h.records,
         });
     }
@@ -95,21 +103,29 @@ fn within_limits(h: Header) -> bool
 pub fn header_of(s: &[u8]) -> Form
     ensures { HeaderSays s.now result }
 {
+    let wrong_length = Misshapen {
+        code: Fault::FileLength as usize,
+        record: 0,
+    };
+    let wrong_header = Misshapen {
+        code: Fault::Header as usize,
+        record: 0,
+    };
     let len = s.len();
     if len < store::Store::HEADER {
-        return Err(Misshapen { code: 1, record: 0 });
+        return Err(wrong_length);
     }
     if store::Store::BYTES < len {
-        return Err(Misshapen { code: 1, record: 0 });
+        return Err(wrong_length);
     }
     if endian::u32_at(s, 0) as usize != len {
-        return Err(Misshapen { code: 1, record: 0 });
+        return Err(wrong_length);
     }
     if endian::u16_at(s, 4) != 8 {
-        return Err(Misshapen { code: 2, record: 0 });
+        return Err(wrong_header);
     }
     if endian::u16_at(s, 6) != 1 {
-        return Err(Misshapen { code: 2, record: 0 });
+        return Err(wrong_header);
     }
     let h = Header {
         keys: endian::byte_at(s, 8),
@@ -119,6 +135,6 @@ pub fn header_of(s: &[u8]) -> Form
     if within_limits(h) {
         Ok(h)
     } else {
-        Err(Misshapen { code: 2, record: 0 })
+        Err(wrong_header)
     }
 }
