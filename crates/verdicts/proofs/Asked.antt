@@ -1,6 +1,6 @@
 -- The clauses that are still asked for: those of the levels that have not failed, level by level; and a clause that is in no set that has nothing in common with
 -- them. Assumes nothing.
-use Prim.Native.Nat.{ℕ, ◌+◌, ◌<◌, ◌≤◌}
+use Prim.Native.Nat.{ℕ, ◌+◌, ◌<◌}
 use mathlib.Core.Path.{◌≡◌, subst}
 use mathlib.Core.Logic.{◌⊎◌, inl, inr, ◌≢◌}
 use mathlib.Core.List.{List}
@@ -17,7 +17,7 @@ use Rattle.levels.specs.Clause.{Clause, monotonic_reads, read_your_writes, monot
 use Rattle.levels.specs.Level.{clauses_of}
 use Rattle.state.specs.Keeps.{IsSet}
 use Rattle.state.proofs.Sets.{is_set-union}
-use Rattle.verdicts.specs.Verdicts.{level_count, level_at, numbers_of, clause_place, ClausesIn, Live}
+use Rattle.verdicts.specs.Verdicts.{level_at, numbers_of, clause_place, ClausesIn, Live}
 use Rattle.verdicts.proofs.FirstFailing.{clause-of-number}
 
 pub not-asked : (live clauses : Set) → bit_and live clauses ≡ 0 → (j : ℕ) → T (has clauses j) → ¬ T (has live j)
@@ -44,9 +44,6 @@ live-skip verdicts l all h n i m z = go (ℕ_discrete i l)
     go : Dec (i ≡ l) → ClausesIn i all
     go (yes x) = absurd (n (subst (λ (y : ℕ). get_or verdicts y 0 ≡ 0) x z))
     go (no x) = h i (omega arith) z
-
-pub live_all : (verdicts : List ℕ) (l : ℕ) (all : Set) → LiveBelow verdicts l all → level_count ≤ l → Live verdicts all
-live_all verdicts l all h b i m z = h i (omega arith) z
 
 -- where all eight are taken, those of every level are
 pub every-clause : (verdicts : List ℕ) → Live verdicts 510

@@ -159,9 +159,6 @@ pub record Noted (news : ℕ → Option Failure) (l : ℕ) (before after : List 
   pub done : (i : ℕ) → i < l → (old : Option Failure) → KeepsVerdict before i old → KeepsVerdict after i (or_else old (news i))
   pub waits : (i : ℕ) → i < level_count → l ≤ i → (old : Option Failure) → KeepsVerdict before i old → KeepsVerdict after i old
 
-pub noted-none : (news : ℕ → Option Failure) (v : List ℕ) → Noted news 0 v v
-noted-none news v = record { done = λ i l. absurd (omega arith); waits = λ i l m old h. h }
-
 pub noted-on : {news : ℕ → Option Failure} {l : ℕ} {before between after : List ℕ} → Noted news l before between → l < level_count → NotesLevel l (news l) between after
     → Noted news (l + 1) before after
 noted-on {news} {l} {before} {between} {after} h m n = record {

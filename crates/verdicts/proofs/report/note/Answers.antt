@@ -1,11 +1,8 @@
 -- `verdicts::report::note` meets its contract. The loop's invariant: the levels before this one have been noted. Assumes nothing.
 use borrow.Author.Rules.{rules}
 use Rattle.levels.specs.Level.{clauses_of, fails_clauses}
-use Rattle.verdicts.proofs.Noted.{noted-none, noted-on, live_on, noted-all}
+use Rattle.verdicts.proofs.Noted.{noted-on, live_on, noted-all}
 use Rattle.verdicts.proofs.report.note.Goals as goal
-
-pub loop-level-init : goal.loop-level-init
-loop-level-init c s u commit values j h a = (noted-none _ _, a)
 
 pub loop-level-preserved : goal.loop-level-preserved
 loop-level-preserved c s u commit values j h a =

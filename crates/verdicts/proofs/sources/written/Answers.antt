@@ -8,16 +8,12 @@ use Rattle.sets.specs.Set.{Set}
 use Rattle.store.specs.Store.{Key}
 use Rattle.state.specs.Places.{writers_place}
 use Rattle.state.proofs.Accesses.{next-key, left-rest, left-none}
-use Rattle.state.proofs.Below.{RowWith, from-none, keys-turn, keys-passed}
+use Rattle.state.proofs.Below.{keys-turn, keys-passed}
 use Rattle.verdicts.proofs.sources.written.Goals as goal
 
 -- the writers of each key
 abbrev row : List ℕ → Key → Set
 row keys k = get_or keys (writers_place k) 0
-
-pub loop-twice-init : goal.loop-twice-init
-loop-twice-init c =
-    let a = c.args in rw c.into_iter-twice-iterator.ensures.into_iter_gives (0, omega arith, c.keys_with.ensures, from-none (RowWith (row a.keys.now) a.ranks 1))
 
 pub loop-twice-preserved : goal.loop-twice-preserved
 loop-twice-preserved c =

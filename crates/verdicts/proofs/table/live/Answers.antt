@@ -1,11 +1,7 @@
 -- `verdicts::table::live` meets its contract. The loop's invariant: the set has the clauses of the levels before this one that have not failed. Assumes nothing.
-use native.Mathlib.Omega.{arith}
-use Rattle.verdicts.proofs.Asked.{live-take, live-skip, live_all}
+use Rattle.verdicts.proofs.Asked.{live-take, live-skip}
 use Rattle.verdicts.proofs.table.live.Goals as goal
 use Rattle.verdicts.proofs.table.live.Goals.{then-verdicts-level-eq0, else-verdicts-level-eq0}
-
-pub loop-level-init : goal.loop-level-init
-loop-level-init c i l = absurd (omega arith)
 
 pub loop-level-preserved : goal.loop-level-preserved
 loop-level-preserved c =
@@ -15,6 +11,3 @@ loop-level-preserved c =
       | then-verdicts-level-eq0 w ↦ rw w.all-is (live-take v l.level l.all l.invariant w.clauses_of.ensures w.union-all.ensures)
       | else-verdicts-level-eq0 w ↦ rw w.all-is (live-skip v l.level l.all l.invariant w.if-verdicts-level-eq0.false)
     ]
-
-pub returns : goal.returns
-returns c = live_all c.args.verdicts.now c.loop-level.level c.loop-level.all c.loop-level.invariant (omega arith)
