@@ -97,7 +97,8 @@ fn write_key(part: &mut [u8], versions: &[u64], k: Key, n: usize) -> usize
     4 + 16 * n
 }
 
-// The keys in order, from `start` on: "Each key's versions go into their own stretch of the lent image".
+// The keys in order, from `start` on: "Each key's versions go into their own stretch of the lent image". One function for the commits and the keys would ask for
+// two closures that repeat the contracts of write_commit and write_key, where each loop has three lines.
 fn write_keys(buffer: &mut [u8], versions: &[u64], keys: &[u64], n: usize, start: usize)
     requires versions_room { VersionsRoom versions.now × KeysRoom keys.now × (n ≤ max_keys) }
     requires n_in_bounds { start + keys_size keys.now n ≤ length buffer.old }

@@ -50,24 +50,15 @@ fn count(total: usize, more: usize) -> usize
     total + more
 }
 
-fn lesser(a: usize, b: usize) -> usize
-    ensures { result ≡ min a b }
-{
-    if a < b {
-        return a;
-    }
-    b
-}
-
 // A piece is kept from `at` on, as far as there is room for it.
 fn keep(kept: &mut [u8], at: usize, piece: &[u8])
     ensures { kept.new ≡ placed kept.old at piece.now }
 {
-    let room = lesser(Store::BYTES, kept.len());
+    let room = Store::BYTES.min(kept.len());
     if room <= at {
         return;
     }
-    let n = lesser(room - at, piece.len());
+    let n = (room - at).min(piece.len());
     text::put_bytes(kept, at, &piece[..n]);
 }
 

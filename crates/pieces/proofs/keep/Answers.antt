@@ -11,17 +11,17 @@ use Rattle.pieces.proofs.keep.Goals as goal
 
 pub returns-then-room-at : goal.returns-then-room-at
 returns-then-room-at c =
-    placed-none c.args.kept.now c.args.at c.args.piece.now (omega (arith, c.lesser-room.ensures))
+    placed-none c.args.kept.now c.args.at c.args.piece.now (omega (arith, c.min-room.ensures))
 
 pub slice_bounds-put_bytes-end : goal.slice_bounds-put_bytes-end
-slice_bounds-put_bytes-end c = sym (length-take-le _ _ (omega (arith, c.lesser-n.ensures)))
+slice_bounds-put_bytes-end c = sym (length-take-le _ _ (omega (arith, c.min-n.ensures)))
 
 pub put_bytes-requires : goal.put_bytes-requires
 put_bytes-requires c =
-    let n = c.lesser-n in
-    omega (arith, length-take n.result c.args.piece.now, n.ensures, c.lesser-room.ensures)
+    let n = c.min-n in
+    omega (arith, length-take n.result c.args.piece.now, n.ensures, c.min-room.ensures)
 
 pub returns : goal.returns
 returns c =
-    let part = ap (λ (n : ℕ). take n c.args.piece.now) (c.lesser-n.ensures ∙ ap (λ (r : ℕ). min (r - c.args.at) (length c.args.piece.now)) c.lesser-room.ensures) in
+    let part = ap (λ (n : ℕ). take n c.args.piece.now) (c.min-n.ensures ∙ ap (λ (r : ℕ). min (r - c.args.at) (length c.args.piece.now)) c.min-room.ensures) in
     c.put_bytes.ensures.stands ∙ ap (put_at c.args.kept.now c.args.at) (part ∙ take-lesser (room_in c.args.kept.now - c.args.at) c.args.piece.now)

@@ -38,7 +38,7 @@ returns g c = λ s u want e kk ro rule.
     elim c.search-test.branch [
       | else-search-test w ↦ rw w.found-is (ap place_of c.search.invariant.0 ∙ missing-nowhere s want u _ e (λ l b. c.search.invariant.1 s u want e kk ro rule l (omega (arith, w.search-test))))
       | then-search-test+in-Some+then-wants w ↦
-        let given = w.in-Some.ensures.steps in
-        rw w.found-is (looking-first s want u _ (w.loop-v.invariant.2 s u want e kk ro rule) given.held given.least (λ b. taken w.if-wants.true (rule _ _ _ b w.wants.ensures)) (omega (arith, w.search-test))
-        (c.search.invariant.1 s u want e kk ro rule))
+          let given = w.in-Some.ensures.steps in
+          rw w.found-is (looking-first s want u _ (w.loop-v.invariant.2 s u want e kk ro rule) given.held given.least (λ b. taken w.if-wants.true (rule _ _ _ b w.wants.ensures)) (omega (arith, w.search-test))
+          (c.search.invariant.1 s u want e kk ro rule))
     ]
