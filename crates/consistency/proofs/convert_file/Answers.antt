@@ -3,7 +3,6 @@ use mathlib.Core.Path.{refl}
 use mathlib.Core.List.{[], ◌∷◌}
 use native.Mathlib.Omega.{arith}
 use Rattle.words.proofs.PutWords.{told-words}
-use borrow.Author.Rules.{rules}
 use Rattle.consistency.proofs.convert_file.Goals as goal
 
 pub returns-then-room-lt-REFUSAL : goal.returns-then-room-lt-REFUSAL

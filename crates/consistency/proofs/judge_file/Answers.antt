@@ -7,7 +7,6 @@ use Rattle.answer.proofs.Recorded.{image-says}
 use Rattle.judging.proofs.Longest.{image-fits}
 use Rattle.words.specs.Layout.{judged_words}
 use Rattle.words.proofs.PutWords.{told-words}
-use borrow.Author.Rules.{rules}
 use Rattle.consistency.proofs.judge_file.Goals as goal
 use Rattle.consistency.proofs.judge_file.Goals.{Then-out-lt-ANSWER}
 

@@ -3,7 +3,6 @@ use mathlib.Core.Path.{refl}
 use native.Mathlib.Omega.{arith}
 use Rattle.arranging.proofs.Claim.{image-claim}
 use Rattle.words.proofs.PutWords.{told-shown}
-use borrow.Author.Rules.{rules}
 use Rattle.consistency.proofs.judge_image.Goals as goal
 
 pub returns-then-out-lt-REFUSAL : goal.returns-then-out-lt-REFUSAL

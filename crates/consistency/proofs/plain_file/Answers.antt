@@ -4,7 +4,6 @@ use native.Mathlib.Omega.{arith}
 use Rattle.rejudging.proofs.Agree.{engines-agree}
 use Rattle.words.specs.Layout.{judged_words}
 use Rattle.words.proofs.PutWords.{told-words}
-use borrow.Author.Rules.{rules}
 use Rattle.consistency.proofs.plain_file.Goals as goal
 
 pub returns-then-room-lt-ANSWER : goal.returns-then-room-lt-ANSWER

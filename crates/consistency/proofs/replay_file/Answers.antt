@@ -5,7 +5,6 @@ use native.Mathlib.Omega.{arith}
 use Rattle.endian.specs.Endian.{Bytes}
 use Rattle.answer.proofs.Written.{replay-fits}
 use Rattle.words.proofs.PutWords.{told-words}
-use borrow.Author.Rules.{rules}
 use Rattle.consistency.proofs.replay_file.Goals as goal
 use Rattle.consistency.proofs.replay_file.Goals.{Then-out-lt-REFUSAL}
 

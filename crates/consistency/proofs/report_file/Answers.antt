@@ -4,7 +4,6 @@ use native.Mathlib.Omega.{arith}
 use Rattle.endian.specs.Endian.{Bytes}
 use Rattle.answer.proofs.Demand3.{demand3}
 use Rattle.answer.proofs.Recorded.{image-says}
-use borrow.Author.Rules.{rules}
 use Rattle.consistency.proofs.report_file.Goals as goal
 use Rattle.consistency.proofs.report_file.Goals.{Then-text-lt-LONGEST}
 

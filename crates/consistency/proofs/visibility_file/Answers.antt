@@ -4,7 +4,6 @@ use native.Mathlib.Omega.{arith}
 use Rattle.visible.proofs.Claim.{visibility}
 use Rattle.words.specs.Layout.{judged_words}
 use Rattle.words.proofs.PutWords.{told-words}
-use borrow.Author.Rules.{rules}
 use Rattle.consistency.proofs.visibility_file.Goals as goal
 
 pub returns-then-out-lt-ANSWER : goal.returns-then-out-lt-ANSWER

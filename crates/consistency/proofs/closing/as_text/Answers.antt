@@ -3,7 +3,6 @@ use mathlib.Core.Path.{refl}
 use native.Mathlib.Omega.{arith}
 use Rattle.endian.specs.Endian.{Bytes}
 use Rattle.pieces.proofs.Judged.{judges-joined, refusal-keeps-image}
-use borrow.Author.Rules.{rules}
 use Rattle.consistency.proofs.closing.as_text.Goals as goal
 
 pub returns-then-text-lt-LONGEST : goal.returns-then-text-lt-LONGEST

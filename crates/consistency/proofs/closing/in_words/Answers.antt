@@ -5,7 +5,6 @@ use Rattle.endian.specs.Endian.{Bytes}
 use Rattle.pieces.proofs.Judged.{judges-joined, refusal-keeps-image}
 use Rattle.words.specs.Layout.{judged_words}
 use Rattle.words.proofs.PutWords.{told-words}
-use borrow.Author.Rules.{rules}
 use Rattle.consistency.proofs.closing.in_words.Goals as goal
 
 pub returns-then-out-lt-ANSWER : goal.returns-then-out-lt-ANSWER
