@@ -1,4 +1,3 @@
-pub mod Searching
 pub mod Passing
 pub mod Gathered
 pub mod Linked

@@ -14,7 +14,7 @@ use Rattle.sets.proofs.Algebra.{without_is}
 use Rattle.dependencies.specs.History.{History, Stored, StoredBelow, as-writer, as-reader, SO, session-order, WR, write_read, write-write, read-write}
 use Rattle.growth.specs.Sessions.{UpTo, ReadUpTo}
 use Rattle.state.specs.Keeps.{IsSet}
-use Rattle.state.proofs.Sets.{is_set-as, is_set-none, is_set-union, is_set-insert}
+use Rattle.state.proofs.Sets.{is_set-as, is_set-union, is_set-insert}
 use Rattle.trying.specs.declared.Ends.{Ends}
 use Rattle.trying.specs.Recorded.{writer_at, StoredIn, recorded}
 use Rattle.trying.specs.Tries.{LinksTo, to-session, to-reader, to-writer, to-overwriter, Starts, Precedes}
@@ -63,9 +63,6 @@ module _ (versions keys commits : List ℕ) (n : ℕ) where
           inr (k, i, x, inr (r, (j, l, m, subst (λ (t : ℕ). T (has (without ends.overwriter (single a)) t)) (sym d) ((without_is ends.overwriter (single a) _).1 (y, λ w. other (sym (single-only a _ w)))))))
 
 -- ---- one commit after the other
-
-pub tried-none : (P : ℕ → Type 0) → IsSet 0 (λ t. (t < 0) × P t)
-tried-none P = is_set-none (λ t (l, _). absurd (omega arith))
 
 pub tried-more : {P : ℕ → Type 0} (all a : ℕ) (linked : Bool) {next : Set} → IsSet all (λ t. (t < a) × P t) → T linked ↔ P a → (T linked → next ≡ insert a all) × ((¬ T linked) → next ≡ all)
     → IsSet next (λ t. (t < a + 1) × P t)

@@ -1,20 +1,11 @@
 -- `writing::put_listed` meets its contract. The loop's invariant: the masks of the keys passed stand from `at` on. Assumes nothing.
 use mathlib.Core.Path.{refl}
 use native.Mathlib.Omega.{arith}
-use Rattle.writing.proofs.Listing.{listed-none, listed-key, listed-room, listed-one, listed-all}
+use Rattle.writing.proofs.Listing.{listed-none, listed-room, listed-one, listed-all}
 use Rattle.writing.proofs.put_listed.Goals as goal
 
 pub loop-k-init : goal.loop-k-init
 loop-k-init c = rw c.into_iter-k-iterator.ensures.into_iter_gives (listed-none _ _ _ _ _)
-
-pub overflow_add-base : goal.overflow_add-base
-overflow_add-base c = let b = c.requires.1 in omega (arith, listed-key c.loop-k.invariant c.in-Some.ensures.steps _ b.1, b.2)
-
-pub offset_bounds-masks-base : goal.offset_bounds-masks-base
-offset_bounds-masks-base c = let b = c.requires.1 in omega (arith, listed-key c.loop-k.invariant c.in-Some.ensures.steps _ b.1, b.2)
-
-pub bounds-masks-base : goal.bounds-masks-base
-bounds-masks-base c = let b = c.requires.1 in omega (arith, listed-key c.loop-k.invariant c.in-Some.ensures.steps _ b.1, b.2)
 
 pub put_u64-requires : goal.put_u64-requires
 put_u64-requires c = let l = c.loop-k.invariant in omega (arith, listed-room l c.in-Some.ensures.steps c.ranges.listed.fits, l.same_length)

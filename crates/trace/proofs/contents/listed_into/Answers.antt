@@ -10,9 +10,6 @@ loop-k-init c = rw c.into_iter-k-iterator.ensures.into_iter_gives (putting-none 
 pub u64_at-requires : goal.u64_at-requires
 u64_at-requires c = omega (arith, putting-room c.loop-k.invariant c.in-Some.ensures.steps c.ranges.listed.fits)
 
-pub bounds-masks-k : goal.bounds-masks-k
-bounds-masks-k c = let l = c.loop-k.invariant in omega (arith, l.filled.same_length, c.requires.1 _ (putting-key l c.in-Some.ensures.steps))
-
 pub overflow_add-at : goal.overflow_add-at
 overflow_add-at c = omega (arith, putting-room c.loop-k.invariant c.in-Some.ensures.steps c.ranges.listed.fits)
 

@@ -1,11 +1,8 @@
 -- `trying::gather::chosen` meets its contract. The loops' invariant: what the versions passed give is gathered. Assumes nothing.
 use native.Mathlib.Omega.{arith}
 use Rattle.trying.specs.Tries.{ChosenAt}
-use Rattle.trying.proofs.Passing.{from-none, from-turn, from_key, from_all}
+use Rattle.trying.proofs.Passing.{from-turn, from_key, from_all}
 use Rattle.trying.proofs.gather.chosen.Goals as goal
-
-pub loop-k-init : goal.loop-k-init
-loop-k-init c = let a = c.args in from-none a.keys.now a.n (ChosenAt a.versions.now a.masks.now a.base a.ranks a.readers)
 
 pub loop-i-preserved : goal.loop-i-preserved
 loop-i-preserved c =

@@ -1,14 +1,7 @@
 -- `trying::gather::chosen_at` meets its contract. Assumes nothing.
-use Rattle.state.proofs.Sets.{is_set-none}
-use Rattle.views.proofs.Tests.{taken, left}
+use Rattle.views.proofs.Tests.{taken}
 use Rattle.trying.proofs.Gathered.{chosen-version}
 use Rattle.trying.proofs.gather.chosen_at.Goals as goal
-
-pub returns-then-not-has : goal.returns-then-not-has
-returns-then-not-has c = is_set-none (λ t x. left c.if-not-has.true c.has.ensures x.0.0)
-
-pub returns-then-not-has-2 : goal.returns-then-not-has-2
-returns-then-not-has-2 c = is_set-none (λ t x. left c.if-not-has-2.true c.has-2.ensures x.0.1)
 
 pub returns : goal.returns
 returns c =

@@ -5,9 +5,6 @@ use Rattle.views.proofs.Words.{meets-yes, meets-no, meets-is}
 use Rattle.trying.specs.Recorded.{readers_at}
 use Rattle.trying.proofs.links.starts_by_write.Goals as goal
 
-pub returns-then-writer_of-a : goal.returns-then-writer_of-a
-returns-then-writer_of-a c = (λ t. absurd t, λ x. absurd (c.if-writer_of-a.true (c.writer_of.ensures.0 ∙ x.0)))
-
 pub returns-then-versions-at-ne0 : goal.returns-then-versions-at-ne0
 returns-then-versions-at-ne0 c =
     let a = c.args in

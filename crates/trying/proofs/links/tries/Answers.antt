@@ -2,13 +2,8 @@
 use mathlib.Core.Path.{◌≡◌}
 use native.Mathlib.Omega.{arith}
 use Rattle.search.proofs.Tests.{both}
-use Rattle.trying.specs.Tries.{LinksTo}
-use Rattle.trying.specs.Recorded.{recorded}
-use Rattle.trying.proofs.Linked.{links-is, tried-none, tried-more}
+use Rattle.trying.proofs.Linked.{links-is, tried-more}
 use Rattle.trying.proofs.links.tries.Goals as goal
-
-pub loop-a-init : goal.loop-a-init
-loop-a-init c = let a = c.args in tried-none (LinksTo (recorded a.versions.now a.keys.now a.commits.now a.n) a.ends)
 
 pub loop-a-preserved : goal.loop-a-preserved
 loop-a-preserved c =
