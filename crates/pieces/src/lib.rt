@@ -22,7 +22,7 @@ pub struct Session {
 }
 
 // The code of a piece, or of a close, after the close.
-pub const CLOSED: u64 = 18;
+pub const CLOSED: u64 = Code::Closed as u64;
 
 // A new record, which has taken no bytes.
 pub fn open() -> Session

@@ -14,7 +14,7 @@ ghost use Rattle.report.specs.Report.{writer_pieces, behind, refusal_line, count
 ghost use Rattle.report.specs.Longest.{longest_end, longest_refusal, longest_counts, longest_verdict, longest_report};
 
 use judging::Answer;
-use state::{Key, Refusal, VersionNumber};
+use state::{Code, Key, Refusal, VersionNumber};
 use verdicts::told::{Verdict, Verdicts};
 
 // Every report has room in a buffer of so many bytes.
@@ -26,7 +26,7 @@ fn put_end(out: &mut [u8], at: usize, refusal: Refusal) -> usize
     ensures put { Put out.old at (behind (writer_pieces (refusal_of refusal))) out.new result }
     ensures upper_bound { result ≤ at + longest_end }
 {
-    if refusal.code == 13 {
+    if refusal.code == Code::Read as usize {
         let writer = refusal.writer;
         let named = text::put_field(out, at, b" writer ", writer.0 as u64);
         return text::put_bytes(out, named, b"\n");

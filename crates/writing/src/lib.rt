@@ -53,8 +53,9 @@ fn copy_operations(buffer: &mut [u8], at: usize, file: &[u8], from: usize, count
     requires { (from + 8 * count ≤ length file.now) × (at + 8 * count ≤ length buffer.old) × ((keys : ℕ) × (keys ≤ max_keys) × (operations_fit file.now from keys 0 count ≡ true)) }
     ensures { buffer.new ≡ put_at buffer.old at (operations_bytes (operations_at file.now from count)) }
 {
-    let bytes = 8 * count;
-    buffer[at..at + bytes].copy_from_slice(&file[from..from + bytes]);
+    for i in 0..count {
+        endian::put_u64(buffer, at + 8 * i, endian::u64_at(file, from + 8 * i));
+    }
 }
 
 // The first 12 bytes of a file: its length, and the record of kind 1.

@@ -5,10 +5,10 @@ use Rattle.search.specs.Choose.{choose}
 use Rattle.text.proofs.Put.{put_both}
 use Rattle.report.proofs.put_end.Goals as goal
 
-pub returns-then-refusal-eq13 : goal.returns-then-refusal-eq13
+pub returns-then-refusal : goal.returns-then-refusal
 unfolding choose
-returns-then-refusal-eq13 c = record { put = rw c.if-refusal-eq13.true (put_both c.put_field-named.ensures.put c.put_bytes.ensures); upper_bound = search rules }
+returns-then-refusal c = record { put = rw c.if-refusal.true (put_both c.put_field-named.ensures.put c.put_bytes.ensures); upper_bound = search rules }
 
 pub returns : goal.returns
 unfolding choose
-returns c = record { put = rw (ne_eqb _ _ c.if-refusal-eq13.false) c.put_bytes-2.ensures; upper_bound = search rules }
+returns c = record { put = rw (ne_eqb _ _ c.if-refusal.false) c.put_bytes-2.ensures; upper_bound = search rules }
