@@ -14,6 +14,7 @@ use model::store::Store;
 use model::trace::encode;
 use model::visibility::TOO_FEW_ROWS;
 use model::{convert, judge_with_room, replay, Answer, Call, Edition, Replay, Verdict};
+use std::collections::BTreeSet;
 use std::fs::{self, File, OpenOptions};
 use std::io::Write;
 use std::path::{Path, PathBuf};
@@ -240,6 +241,24 @@ fn from_cpp() {
     check_order(&program);
     let program = compiled("print_report", words, "bindings/c/print_report.cc");
     check(&program, print_report);
+}
+
+/// What the archive takes from outside, as the README says: a program without a
+/// C library has to bring these two, and no more.
+#[test]
+fn nothing_but_memcpy_and_memset() {
+    let archive = at("target/staticlib/libconsistency.a");
+    let output = Command::new("nm").arg("-u").arg(&archive).output();
+    let output = output.expect("nm lists the archive");
+    assert!(output.status.success(), "nm -u {}", archive.display());
+    let listed = String::from_utf8(output.stdout).expect("names");
+    let names = listed
+        .lines()
+        .filter_map(|line| line.trim().strip_prefix("U "));
+    let names: BTreeSet<&str> = names.collect();
+    assert_eq!(names, BTreeSet::from(["memcpy", "memset"]));
+    let readme = text("README.md");
+    assert!(readme.contains("A call needs nothing but `memcpy` and `memset`,"));
 }
 
 /// It needs nothing before it.

@@ -4,8 +4,9 @@ use mathlib.Core.Path.{◌≡◌, refl, sym, ap, ◌∙◌, subst}
 use mathlib.Core.List.{List, [], ◌∷◌, ◌++◌}
 use native.Mathlib.Omega.{arith}
 use native.Mathlib.Nat.{zero-add}
-use lib.ListN.{length, set, length-append}
-use lib.Seq.{sets-eq}
+use native.Mathlib.Numerals.{add-one}
+use lib.ListN.{length, get_or, set, length-append}
+use lib.Seq.{paste, paste-suc, sets-eq}
 use Rattle.endian.specs.Endian.{put_at}
 use Rattle.endian.proofs.Put.{length-put, put_next}
 use Rattle.text.specs.Decimal.{digit, decimal, decimal-one, decimal-more}
@@ -28,6 +29,11 @@ put-start {bytes = bytes} p = (p.behind ∙ zero-add (length bytes), p.stands)
 -- one byte
 pub put_one : (d : List ℕ) (at b : ℕ) → at < length d → Put d at (b ∷ []) (set d at b) (at + 1)
 put_one d at b l = record { stands = sets-eq (b ∷ []) d at (omega arith); behind = refl; within = omega arith }
+
+-- a turn of the loop that puts bytes one by one
+pub put-next-byte : (d bytes : List ℕ) (at i : ℕ) {present : List ℕ} → present ≡ paste d at bytes i → at + i < length d → i < length bytes
+    → set present (at + i) (get_or bytes i 0) ≡ paste d at bytes (i + 1)
+put-next-byte d bytes at i e l m = rw (e, add-one i) (paste-suc d at bytes i 0 l m)
 
 -- ---- the digits of a number
 

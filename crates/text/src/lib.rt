@@ -10,9 +10,10 @@ pub fn put_bytes(out: &mut [u8], at: usize, bytes: &[u8]) -> usize
     requires { at + length bytes.now ≤ length out.old }
     ensures { Put out.old at bytes.now out.new result }
 {
-    let end = at + bytes.len();
-    out[at..end].copy_from_slice(bytes);
-    end
+    for (i, byte) in bytes.iter().enumerate() {
+        out[at + i] = *byte;
+    }
+    at + bytes.len()
 }
 
 // The digits of n, from `at` on.

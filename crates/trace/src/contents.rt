@@ -29,7 +29,9 @@ fn row_into(views: &[u64], base: usize, masks: &mut [u64], n: usize)
     ensures read { (k : ℕ) → k < n → get_or masks.new k 0 ≡ get_or views.now (base + k) 0 }
     ensures kept { (k : ℕ) → n ≤ k → get_or masks.new k 0 ≡ get_or masks.old k 0 }
 {
-    masks[..n].copy_from_slice(&views[base..base + n]);
+    for (k, mask) in masks[..n].iter_mut().enumerate() {
+        *mask = views[base + k];
+    }
 }
 
 // The elements of `masks` at the numbers in `listed` become the masks that stand at a place, in turn; the others stay.
