@@ -135,6 +135,8 @@ fn low_after(s: &[u8], at: usize, keys: usize, low: usize) -> usize
 
 // "Operations rise strictly by key and then kind": whether the m operations from a place on fit, each of a higher rank 2 * key + access than the one
 // before. Where they do, the element of `values` at each of their ranks becomes the operation's value.
+// By itself in the machine code: taken into record_at its loop keeps words in memory.
+#[inline(never)]
 pub fn sort(s: &[u8], start: usize, keys: usize, m: usize, values: &mut [u64]) -> Option<u64>
     requires { (start + 8 * m ≤ length s.now) × (keys ≤ max_keys) × (2 * max_keys ≤ length values.old) }
     ensures said { SortSays s.now start keys m values.new result }
