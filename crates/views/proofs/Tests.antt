@@ -1,5 +1,5 @@
 -- Tests as the code makes them. Assumes nothing.
-use Rattle.std.proofs.Common.{◌≡◌, ℕ, ◌+◌, ◌<◌, Bool, true, false, T, ◌↔◌, sym, ap, ◌∙◌, subst, true≢false, arith, below_more}
+use Rattle.std.proofs.Common.{◌≡◌, ℕ, ◌+◌, ◌<◌, Bool, true, false, not, T, ◌↔◌, sym, ap, ◌∙◌, subst, true≢false, arith, below_more}
 use lib.Bits.{bit_or, bit_xor, or_add_and, xor_add_and, xor_self, and_le_l, and_le_r, or_zero_l}
 use Rattle.search.proofs.Tests.{T_true, true-T}
 use Rattle.sets.specs.Set.{Set, has, union}
@@ -10,6 +10,17 @@ taken e q = true-T _ (sym q ∙ e)
 
 pub left : {r b : Bool} → r ≡ false → r ≡ b → ¬ T b
 left e q t = true≢false (sym (T_true _ t) ∙ sym q ∙ e)
+
+-- `if !f(..)`
+pub not_taken : {r b : Bool} → not r ≡ true → r ≡ b → ¬ T b
+not_taken e q t = true≢false (sym e ∙ ap not (q ∙ T_true _ t))
+
+pub not_left : {r b : Bool} → not r ≡ false → r ≡ b → T b
+not_left {r} e q = go r e q
+  where
+    go : (r : Bool) {b : Bool} → not r ≡ false → r ≡ b → T b
+    go true e q = true-T _ (sym q)
+    go false e q = absurd (true≢false e)
 
 -- a set said otherwise
 pub has-as : {a b : ℕ} (i : ℕ) → a ≡ b → T (has a i) → T (has b i)
