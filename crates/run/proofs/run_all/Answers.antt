@@ -86,7 +86,7 @@ pub records_form-requires : goal.records_form-requires
 records_form-requires c =
     let p = c.requires.le_n in
     let t = next-turn (goal.at.records_form-requires c).After-commits_with-made in
-    (t.within, p.1, omega (arith, p.5), omega (arith, c.loop-number-test.true), t.few-made)
+    (omega (arith, t.within), p.1, omega (arith, p.5), omega (arith, c.loop-number-test.true), t.few-made)
 
 pub returns-in_err-records_form-clause-form : goal.returns-in_err-records_form-clause-form
 returns-in_err-records_form-clause-form c =
